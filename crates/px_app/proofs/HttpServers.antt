@@ -21,12 +21,12 @@ use Rattle.px_exchange.specs.declared.taken.Taken.{Taken}
 use Rattle.px_exchange.specs.declared.taken.Taken.TheVariants.{GoesOn, Responds, Kills}
 use Rattle.px_exchange.specs.declared.place.Place.{Place}
 use Rattle.px_exchange.specs.declared.terms.Terms.{Terms}
-use Rattle.px_chain.specs.Chain.{behind as behind_ask, finish_by, goes_on_by, http_chain, sequence, look, leaving, parked_for, pass, pass_body, side_behind, so_far, turn, turn_taken_head, turn_judged, turn_head, turn_taken_body, turn_taken_whole, turn_body, used_more, dial_leads, turn_taken_answer, turn_answer, turn_taken_returned, turn_response, turn_returned, turn_taken_given, behind_flow}
+use Rattle.px_chain.specs.Chain.{behind as behind_ask, finish_by, goes_on_by, http_chain, sequence, look, leaving, parked_for, pass, pass_body, so_far, turn, turn_taken_head, turn_judged, turn_head, turn_taken_body, turn_taken_whole, turn_body, dial_leads, turn_taken_answer, turn_answer, turn_taken_returned, turn_response, turn_returned, turn_taken_given, behind_flow}
 use Rattle.px_exchange.specs.Finds.{or_leaves, look_judged, look_head, look_body, look_answer_head, look_answer, look_returned, is_relayed}
 use Rattle.px_exchange.specs.Flows.{ask_of, response_of, with_answer, with_body, with_end, with_returned, with_start}
 use Rattle.px_chain.proofs.Quiet.{AllQuiet, LooksQuiet, any_flow}
 use Rattle.px_chain.specs.Sights.{Sight, Standing, answers_in, request_in, server_in, server_parked, sight_over}
-use Rattle.px_chain.specs.Stages.{At, ServerSide, Stage, busy, connection, given_body, given_head, idle, next, over, request_body, response_body, response_head, unparked, upgraded}
+use Rattle.px_chain.specs.Stages.{At, Stage, busy, connection, given_body, given_head, idle, next, over, request_body, response_body, response_head, unparked, upgraded}
 use Rattle.px_chain.proofs.QuietLemmas.{behind_quiet, so_far_quiet, turn_quiet, finds_quiet_end}
 use Rattle.px_resend.specs.Dialled.{dials_in}
 use Rattle.px_app.specs.Servers.{CountsFrom}
@@ -112,10 +112,10 @@ counts_found n (Asks ask) not quiet = let P : List ℕ → Type 0 = CountsFrom n
 counts_found n (Ends owed) not quiet = let P : List ℕ → Type 0 = CountsFrom n in subst P (sym (quiet_dials any_flow owed quiet)) tt
 
 looks : (terms : Terms) (n : ℕ) (stage : Stage) (seen : Sight) → Dialled n stage → CountsFrom n (dials_in (found (look terms stage seen)))
-looks terms n (idle at) seen is = counts_found n _ (leaves_not _ _ _ (head_not terms at.flow (request_in at seen) seen.now (server_parked at.parked seen) seen.closed)) (finds_quiet_end terms (idle at) seen)
+looks terms n (idle at) seen is = counts_found n _ (leaves_not _ _ _ (head_not terms at.flow (request_in seen) seen.now (server_parked at.parked seen) seen.closed)) (finds_quiet_end terms (idle at) seen)
 looks terms n (busy at flow (request_body given)) seen is = counts_found n _ (leaves_not _ _ _ (body_not flow _ _ _ _)) (finds_quiet_end terms (busy at flow (request_body given)) seen)
 looks terms n (busy at flow connection) seen is = (is, tt)
-looks terms n (busy at flow (response_head side how)) seen is = counts_found n _ (leaves_not _ _ _ (answer_not flow (answers_in flow.request side seen).final seen.now (server_in side seen) seen.closed)) (finds_quiet_end terms (busy at flow (response_head side how)) seen)
+looks terms n (busy at flow (response_head side how)) seen is = counts_found n _ (leaves_not _ _ _ (answer_not flow (answers_in flow.request seen).final seen.now (server_in side seen) seen.closed)) (finds_quiet_end terms (busy at flow (response_head side how)) seen)
 looks terms n (busy at flow (response_body side how)) seen is = counts_found n _ (leaves_not _ _ _ (returned_not flow _ _ _ _)) (finds_quiet_end terms (busy at flow (response_body side how)) seen)
 looks terms n (busy at flow (upgraded side)) seen is = tt
 looks terms n (busy at flow given_head) seen is = tt
@@ -145,7 +145,7 @@ item_leads n terms at (bad_head fault) seen answer is = tt
 item_leads n terms at (bad_body fault head body) seen answer is = judged_leads n terms at head _ seen answer is
 
 -- the parked side was dialled before
-goes_leads : (n : ℕ) (side : Option ServerSide) (place : Place) (at : At) (flow : Flow) → at.dials ≡ n → Dialled n (goes_on_by side place at flow).stage
+goes_leads : (n : ℕ) (side : Option ℕ) (place : Place) (at : At) (flow : Flow) → at.dials ≡ n → Dialled n (goes_on_by side place at flow).stage
 goes_leads n None place at flow is = is
 goes_leads n (Some side) place at flow is = is
 
@@ -160,7 +160,7 @@ body_leads : (n : ℕ) (place : Place) (at : At) (flow : Flow) (item : Item Read
 body_leads n place at flow missing seen answer is = tt
 body_leads n place at flow (part head body) seen answer is = tt
 body_leads n place at flow (complete head body trailers used) seen answer is =
-    taken_body_leads n place (used_more at used) (with_body flow body.content trailers seen.now) _ answer.moment seen is
+    taken_body_leads n place at (with_body flow body.content trailers seen.now) _ answer.moment seen is
 body_leads n place at flow (bad_head fault) seen answer is = tt
 body_leads n place at flow (bad_body fault head body) seen answer is = tt
 
@@ -172,13 +172,13 @@ dial_on n place at flow reply.Discard is = tt
 dial_on n place at flow reply.Dialled is = ap (λ (k : ℕ). k + 1) is
 dial_on n place at flow (reply.Refused fault) is = tt
 
-taken_answer_leads : (n : ℕ) (at : At) (flow : Flow) (side : ServerSide) (taken : Taken Response) (moment : ℕ) (used : Used) (closed : Bool) → at.dials ≡ n →
+taken_answer_leads : (n : ℕ) (at : At) (flow : Flow) (side : ℕ) (taken : Taken Response) (moment : ℕ) (used : Used) (closed : Bool) → at.dials ≡ n →
     Dialled n (turn_taken_answer at flow side taken moment used closed).stage
 taken_answer_leads n at flow side (GoesOn response) moment used closed is = is
 taken_answer_leads n at flow side (Responds response) moment used closed is = tt
 taken_answer_leads n at flow side Kills moment used closed is = tt
 
-answer_leads : (n : ℕ) (at : At) (flow : Flow) (side : ServerSide) (item : Item ReadResponse) (seen : Sight) (answer : Timed Reply) → at.dials ≡ n →
+answer_leads : (n : ℕ) (at : At) (flow : Flow) (side : ℕ) (item : Item ReadResponse) (seen : Sight) (answer : Timed Reply) → at.dials ≡ n →
     Dialled n (turn_answer at flow side item seen answer).stage
 answer_leads n at flow side missing seen answer is = tt
 answer_leads n at flow side (part head body) seen answer is = taken_answer_leads n at (with_answer flow (response_of head) seen.now) side _ answer.moment _ _ is
@@ -202,26 +202,26 @@ response_leads n None takes goes leads = tt
 response_leads n (Some response) takes goes leads = leads (takes response)
 
 -- behind a response of code 101 HTTP has ended
-finish_leads : (n : ℕ) (switches : Bool) (at : At) (flow : Flow) (response : Response) (side : ServerSide) (used : Used) (closed : Bool) → at.dials ≡ n →
+finish_leads : (n : ℕ) (switches : Bool) (at : At) (flow : Flow) (response : Response) (side : ℕ) (used : Used) (closed : Bool) → at.dials ≡ n →
     Dialled n (finish_by switches at flow response side used closed).stage
 finish_leads n true at flow response side used closed is = is
 finish_leads n false at flow response side used closed is = behind n _ (unparked at) is
 
-taken_whole_leads : (n : ℕ) (at : At) (flow : Flow) (side : ServerSide) (taken : Taken Response) (moment : ℕ) (used : Used) (closed : Bool) → at.dials ≡ n →
+taken_whole_leads : (n : ℕ) (at : At) (flow : Flow) (side : ℕ) (taken : Taken Response) (moment : ℕ) (used : Used) (closed : Bool) → at.dials ≡ n →
     Dialled n (turn_taken_whole at flow side taken moment used closed).stage
 taken_whole_leads n at flow side (GoesOn response) moment used closed is = finish_leads n (response.status == 101) at flow response side used closed is
 taken_whole_leads n at flow side (Responds response) moment used closed is = tt
 taken_whole_leads n at flow side Kills moment used closed is = tt
 
-returned_leads : (n : ℕ) (at : At) (flow : Flow) (side : ServerSide) (interim : ℕ) (item : Item ReadResponse) (seen : Sight) (answer : Timed Reply) → at.dials ≡ n →
-    Dialled n (turn_returned at flow side interim item seen answer).stage
-returned_leads n at flow side interim missing seen answer is = tt
-returned_leads n at flow side interim (part head body) seen answer is = tt
-returned_leads n at flow side interim (complete head body trailers size) seen answer is =
+returned_leads : (n : ℕ) (at : At) (flow : Flow) (side : ℕ) (item : Item ReadResponse) (seen : Sight) (answer : Timed Reply) → at.dials ≡ n →
+    Dialled n (turn_returned at flow side item seen answer).stage
+returned_leads n at flow side missing seen answer is = tt
+returned_leads n at flow side (part head body) seen answer is = tt
+returned_leads n at flow side (complete head body trailers size) seen answer is =
     response_leads n (with_returned flow body.content trailers seen.now).response _ _
-    (λ taken. taken_whole_leads n at (with_returned flow body.content trailers seen.now) (side_behind side (interim + size)) taken answer.moment _ _ is)
-returned_leads n at flow side interim (bad_head fault) seen answer is = tt
-returned_leads n at flow side interim (bad_body fault head body) seen answer is = tt
+    (λ taken. taken_whole_leads n at (with_returned flow body.content trailers seen.now) side taken answer.moment _ _ is)
+returned_leads n at flow side (bad_head fault) seen answer is = tt
+returned_leads n at flow side (bad_body fault head body) seen answer is = tt
 
 taken_given_leads : (n : ℕ) (at : At) (flow : Flow) (taken : Taken Response) (moment : ℕ) (parked : Used) (closed : Bool) → at.dials ≡ n →
     Dialled n (turn_taken_given at flow taken moment parked closed).stage
@@ -246,7 +246,7 @@ passed_body n at flow (Some response) (bad_body fault head body) now is = is
 
 passed : (n : ℕ) (stage : Stage) (seen : Sight) → Dialled n stage → Dialled n (pass stage seen)
 passed n (idle at) seen is = is
-passed n (busy at flow (request_body given)) seen is = passed_body n at flow given (request_in at seen) seen.now is
+passed n (busy at flow (request_body given)) seen is = passed_body n at flow given (request_in seen) seen.now is
 passed n (busy at flow connection) seen is = is
 passed n (busy at flow (response_head side how)) seen is = is
 passed n (busy at flow (response_body side how)) seen is = is
@@ -268,13 +268,13 @@ dial_asked at flow seen terms ask is = let P : Look Command → Type 0 = λ l. l
 
 turns : (terms : Terms) (n : ℕ) (stage : Stage) (seen : Sight) (ask : Command) (answer : Timed Reply) → Dialled n stage → look terms stage seen ≡ Asks ask →
     Dialled (n + length (dials_in (ask ∷ []))) (turn terms stage seen answer).stage
-turns terms n (idle at) seen ask answer is asks = stays n _ ask (asked_not _ ask asks (leaves_not _ _ _ (head_not terms at.flow (request_in at seen) seen.now (server_parked at.parked seen) seen.closed))) (item_leads n terms at (request_in at seen) seen answer is)
-turns terms n (busy at flow (request_body given)) seen ask answer is asks = stays n _ ask (asked_not _ ask asks (leaves_not _ _ _ (body_not flow _ _ _ _))) (body_leads n terms.place at flow (request_in at seen) seen answer is)
+turns terms n (idle at) seen ask answer is asks = stays n _ ask (asked_not _ ask asks (leaves_not _ _ _ (head_not terms at.flow (request_in seen) seen.now (server_parked at.parked seen) seen.closed))) (item_leads n terms at (request_in seen) seen answer is)
+turns terms n (busy at flow (request_body given)) seen ask answer is asks = stays n _ ask (asked_not _ ask asks (leaves_not _ _ _ (body_not flow _ _ _ _))) (body_leads n terms.place at flow (request_in seen) seen answer is)
 turns terms n (busy at flow connection) seen ask answer is asks =
     let P : ℕ → Type 0 = λ k. Dialled (n + k) (dial_leads terms.place at flow answer.value) in
     subst P (sym (dial_asked at flow seen terms ask asks)) (dial_on n terms.place at flow answer.value is)
-turns terms n (busy at flow (response_head side how)) seen ask answer is asks = stays n _ ask (asked_not _ ask asks (leaves_not _ _ _ (answer_not flow (answers_in flow.request side seen).final seen.now (server_in side seen) seen.closed))) (answer_leads n at flow side (answers_in flow.request side seen).final seen answer is)
-turns terms n (busy at flow (response_body side how)) seen ask answer is asks = stays n _ ask (asked_not _ ask asks (leaves_not _ _ _ (returned_not flow _ _ _ _))) (returned_leads n at flow side (answers_in flow.request side seen).used (answers_in flow.request side seen).final seen answer is)
+turns terms n (busy at flow (response_head side how)) seen ask answer is asks = stays n _ ask (asked_not _ ask asks (leaves_not _ _ _ (answer_not flow (answers_in flow.request seen).final seen.now (server_in side seen) seen.closed))) (answer_leads n at flow side (answers_in flow.request seen).final seen answer is)
+turns terms n (busy at flow (response_body side how)) seen ask answer is asks = stays n _ ask (asked_not _ ask asks (leaves_not _ _ _ (returned_not flow _ _ _ _))) (returned_leads n at flow side (answers_in flow.request seen).final seen answer is)
 turns terms n (busy at flow (upgraded side)) seen ask answer is asks = tt
 turns terms n (busy at flow given_head) seen ask answer is asks =
     stays n _ ask (asked_not (look terms (busy at flow given_head) seen) ask asks refl) (response_leads n flow.response _ _

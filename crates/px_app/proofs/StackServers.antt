@@ -99,10 +99,10 @@ counts_none n list none = let P : List ℕ → Type 0 = CountsFrom n in subst P 
 module _ (conv : ℕ) (client : Visitor) where
   -- ---- where a stage goes on to
 
-  tunnel_dialled : (n : ℕ) (place : Place) (standing : Standing) (at : At) (connect : Option Connect) → DialledAt n standing → at.dials ≡ n →
-      DialledSo n (or_stays (http place standing) (tunnel_for place at connect))
-  tunnel_dialled n place standing at None is here = is
-  tunnel_dialled n place standing at (Some connect) is here = here
+  tunnel_dialled : (n : ℕ) (place : Place) (standing : Standing) (used : ℕ) (at : At) (connect : Option Connect) → DialledAt n standing → at.dials ≡ n →
+      DialledSo n (or_stays (http place standing) (tunnel_for place used at connect))
+  tunnel_dialled n place standing used at None is here = is
+  tunnel_dialled n place standing used at (Some connect) is here = here
 
   upgrades_dialled : (n : ℕ) (is : Bool) (flow : Flow) (moment : ℕ) (ends : TunnelEnds) → DialledSo n (upgrades is flow moment ends)
   upgrades_dialled n true flow moment ends = tt
@@ -110,7 +110,7 @@ module _ (conv : ℕ) (client : Visitor) where
 
   hands_dialled : (n : ℕ) (place : Place) (standing : Standing) (stage : flows.Stage) (seen : Sight) → DialledAt n standing → Dialled n stage →
       DialledSo n (or_stays (http place standing) (hands_by place standing stage seen))
-  hands_dialled n place standing (idle at) seen is here = tunnel_dialled n place standing at (connect_in place (request_in at seen)) is here
+  hands_dialled n place standing (idle at) seen is here = tunnel_dialled n place standing standing.used.client at (connect_in place (request_in seen)) is here
   hands_dialled n place standing (busy at flow (request_body given)) seen is here = is
   hands_dialled n place standing (busy at flow connection) seen is here = is
   hands_dialled n place standing (busy at flow (response_head side how)) seen is here = is
@@ -201,15 +201,15 @@ module _ (conv : ℕ) (client : Visitor) where
   opening_none link prefix =
       let closed : Bool = client_closed prefix in
       let shut : Bool = is_shut link prefix in
-      found_none (closed || shut) (closes_all link.side.server shut closed) (all_none (ByServer link.side.server shut) closed)
+      found_none (closed || shut) (closes_all link.server shut closed) (all_none (ByServer link.server shut) closed)
 
   raw_none : (ends : TunnelEnds) (prefix : List (Timed Event)) → dials_in (found (raw_look ends prefix)) ≡ []
   raw_none ends prefix =
       let closed : Bool = client_closed prefix in
       let shut : Bool = is_shut ends.link prefix in
-      let closes : List Command = closes_all ends.link.side.server shut closed in
+      let closes : List Command = closes_all ends.link.server shut closed in
       found_none (closed || shut) (finished_flow ends.flow ++ closes)
-      (none_both (finished_flow ends.flow) closes (flow_none ends.flow) (all_none (ByServer ends.link.side.server shut) closed))
+      (none_both (finished_flow ends.flow) closes (flow_none ends.flow) (all_none (ByServer ends.link.server shut) closed))
 
   looks : (n : ℕ) (stage : Stage) (prefix : List (Timed Event)) → DialledSo n stage → CountsFrom n (dials_in (found ((stack_chain conv client).look stage prefix)))
   looks n (http place standing) prefix is = (flows_counts place).look n standing prefix is
@@ -254,7 +254,7 @@ module _ (conv : ℕ) (client : Visitor) where
       (from.at.dials ≡ n) × ((flows_at conv client place).look standing prefix ≡ Asks (commands.Dial from.at.dials (dialled_for place from.flow.request) None))
 
   led_is_by : (n : ℕ) (place : Place) (standing : Standing) (prefix : List (Timed Event)) (stage : flows.Stage) → standing.stage ≡ stage → Dialled n stage →
-      IsLed n place standing prefix (led_by stage)
+      IsLed n place standing prefix (led_by standing.used.client stage)
   led_is_by n place standing prefix (idle at) is here = tt
   led_is_by n place standing prefix (busy at flow (request_body given)) is here = tt
   led_is_by n place standing prefix (busy at flow connection) is here = (here, ap (λ s. look_of (terms_of conv client.address place) s (sight_over standing prefix)) is)
@@ -266,7 +266,7 @@ module _ (conv : ℕ) (client : Visitor) where
   led_is_by n place standing prefix (next at) is here = tt
   led_is_by n place standing prefix flows.over is here = tt
 
-  led_is : (n : ℕ) (place : Place) (standing : Standing) (prefix : List (Timed Event)) → DialledAt n standing → IsLed n place standing prefix (led_at place standing.stage)
+  led_is : (n : ℕ) (place : Place) (standing : Standing) (prefix : List (Timed Event)) → DialledAt n standing → IsLed n place standing prefix (led_at place standing)
   led_is n places.Regular standing prefix here = tt
   led_is n (places.Upstream proxy) standing prefix here = tt
   led_is n (places.Fixed address side None) standing prefix here = tt
@@ -296,7 +296,7 @@ module _ (conv : ℕ) (client : Visitor) where
   turns : (n : ℕ) (stage : Stage) (prefix : List (Timed Event)) (ask : Command) (answer : Timed Reply) → DialledSo n stage → (stack_chain conv client).look stage prefix ≡ Asks ask →
       (dials_in ((stack_chain conv client).turn stage prefix answer).owed ≡ []) × DialledSo (n + length (dials_in (ask ∷ []))) ((stack_chain conv client).turn stage prefix answer).stage
   turns n (http place standing) prefix ask answer is asks =
-      http_turns n (led_at place standing.stage) place standing prefix ask answer answer.value (led_is n place standing prefix is) is asks
+      http_turns n (led_at place standing) place standing prefix ask answer answer.value (led_is n place standing prefix is) is asks
   turns n (connecting tunnel) prefix ask answer is asks =
       let on = dial_turns n tunnel prefix answer.value answer.moment is in
       let P : ℕ → Type 0 = λ k. DialledSo (n + k) (turn_dial conv client tunnel prefix answer.value answer.moment).stage in

@@ -26,28 +26,32 @@ use Rattle.px_exchange.specs.declared.terms.Terms.{Terms}
 use Rattle.px_exchange.specs.Finds.{or_leaves}
 use Rattle.px_exchange.specs.Requests.{is_head}
 use Rattle.px_exchange.specs.Texts.{interim_command, interim_commands}
-use Rattle.px_chain.specs.Chain.{find, http_chain, leaving, look, pass, pass_body, so_far}
-use Rattle.px_chain.specs.Sights.{Sight, Standing, bytes_over, request_in, shut_over, sight_over}
-use Rattle.px_chain.specs.Stages.{At, ServerSide, Stage, busy, connection, given_body, given_head, idle, next, over, request_body, response_body, response_head, upgraded}
+use Rattle.px_chain.specs.Chain.{find, http_chain, leaving, look, pass, pass_body, passed, sight_past, so_far, used_by_pass}
+use Rattle.px_chain.specs.Sights.{Sight, Standing, UsedBytes, bytes_over, request_in, shut_over, sight_over}
+use Rattle.px_chain.specs.Stages.{At, Stage, busy, connection, given_body, given_head, idle, next, over, request_body, response_body, response_head, upgraded}
 use Rattle.px_chain.specs.Streams.{Since, bytes_of, client_closed, is_closed}
 use Rattle.px_chain.proofs.FrontLaws.{DropMore, behind, none, bytes_more, bytes_shut, closed_stays, drop_more, open_behind}
 use Rattle.px_chain.proofs.SightLaws.{sight_passed}
 
 -- ---- passing settles at once
 
-body_twice : (at : At) (flow : Flow) (given : Option Response) (item : Item ReadRequest) (seen : Sight) → request_in at seen ≡ item →
-    pass (pass_body at flow given item seen.now) seen ≡ pass_body at flow given item seen.now
+-- where a stage has passed, and what is left of the sight
+abbrev past_body : At → Flow → Option Response → Sight → Sight
+past_body at flow given seen = sight_past (busy at flow (request_body given)) seen
+
+body_twice : (at : At) (flow : Flow) (given : Option Response) (item : Item ReadRequest) (seen : Sight) → request_in seen ≡ item →
+    pass (pass_body at flow given item seen.now) (past_body at flow given seen) ≡ pass_body at flow given item seen.now
 body_twice at flow None item seen is = refl
-body_twice at flow (Some response) missing seen is = rw is refl
-body_twice at flow (Some response) (part head body) seen is = rw is refl
+body_twice at flow (Some response) missing seen is = rw is (rw is refl)
+body_twice at flow (Some response) (part head body) seen is = rw is (rw is refl)
 body_twice at flow (Some response) (complete head body trailers used) seen is = refl
-body_twice at flow (Some response) (bad_head fault) seen is = rw is refl
-body_twice at flow (Some response) (bad_body fault head body) seen is = rw is refl
+body_twice at flow (Some response) (bad_head fault) seen is = rw is (rw is refl)
+body_twice at flow (Some response) (bad_body fault head body) seen is = rw is (rw is refl)
 
 -- in one sight a stage that was passed to passes no more
-pub pass_twice : (stage : Stage) (seen : Sight) → pass (pass stage seen) seen ≡ pass stage seen
+pub pass_twice : (stage : Stage) (seen : Sight) → pass (pass stage seen) (sight_past stage seen) ≡ pass stage seen
 pass_twice (idle at) seen = refl
-pass_twice (busy at flow (request_body given)) seen = body_twice at flow given (request_in at seen) seen refl
+pass_twice (busy at flow (request_body given)) seen = body_twice at flow given (request_in seen) seen refl
 pass_twice (busy at flow connection) seen = refl
 pass_twice (busy at flow (response_head side how)) seen = refl
 pass_twice (busy at flow (response_body side how)) seen = refl
@@ -57,16 +61,42 @@ pass_twice (busy at flow given_body) seen = refl
 pass_twice (next at) seen = refl
 pass_twice over seen = refl
 
+used_body_twice : (at : At) (flow : Flow) (given : Option Response) (item : Item ReadRequest) (seen : Sight) (used : UsedBytes) → request_in seen ≡ item →
+    used_by_pass (pass_body at flow given item seen.now) (past_body at flow given seen) used ≡ used
+used_body_twice at flow None item seen used is = refl
+used_body_twice at flow (Some response) missing seen used is = rw is (rw is refl)
+used_body_twice at flow (Some response) (part head body) seen used is = rw is (rw is refl)
+used_body_twice at flow (Some response) (complete head body trailers size) seen used is = refl
+used_body_twice at flow (Some response) (bad_head fault) seen used is = rw is (rw is refl)
+used_body_twice at flow (Some response) (bad_body fault head body) seen used is = rw is (rw is refl)
+
+-- and uses no more
+pub used_twice : (stage : Stage) (seen : Sight) (used : UsedBytes) → used_by_pass (pass stage seen) (sight_past stage seen) used ≡ used
+used_twice (idle at) seen used = refl
+used_twice (busy at flow (request_body given)) seen used = used_body_twice at flow given (request_in seen) seen used refl
+used_twice (busy at flow connection) seen used = refl
+used_twice (busy at flow (response_head side how)) seen used = refl
+used_twice (busy at flow (response_body side how)) seen used = refl
+used_twice (busy at flow (upgraded side)) seen used = refl
+used_twice (busy at flow given_head) seen used = refl
+used_twice (busy at flow given_body) seen used = refl
+used_twice (next at) seen used = refl
+used_twice over seen used = refl
+
+-- so its place stays
+pub passed_twice : (place : Standing) (seen : Sight) → passed (passed place seen) (sight_past place.stage seen) ≡ passed place seen
+passed_twice place seen =
+    let used : UsedBytes = used_by_pass place.stage seen place.used in
+    let first = pass_twice place.stage seen in
+    let more = used_twice place.stage seen used in
+    λ i. record { stage = first i; since = place.since; opened = place.opened; used = more i }
+
 settled_at : (onward : Stage → Stage) (terms : Terms) (place : Standing) (prefix : List (Timed Event)) →
-    IsSettled (http_chain onward terms) (record place { stage = pass place.stage (sight_over place prefix) }) prefix
+    IsSettled (http_chain onward terms) (passed place (sight_over place prefix)) prefix
 settled_at onward terms place prefix =
     let seen : Sight = sight_over place prefix in
-    let there : Stage = pass place.stage seen in
-    record {
-      stays = ap (λ stage. (let here : Standing = record place { stage = stage } in here))
-          (ap (λ s. pass there s) (sight_passed place seen prefix) ∙ pass_twice place.stage seen);
-      owes_nothing = refl;
-    }
+    let there : Standing = passed place seen in
+    record { stays = ap (λ s. passed there s) (sight_passed place prefix) ∙ passed_twice place seen; owes_nothing = refl }
 
 pub settles : (onward : Stage → Stage) (terms : Terms) → Settles (http_chain onward terms)
 settles onward terms = record { at = settled_at onward terms }
@@ -121,10 +151,10 @@ answers_by side used n prefix e asked_head open_client (none was is) =
     rw (was, is) (prefix_self (answer_list asked_head false (drop used [])).interim)
 
 -- with one event more the interim responses of a side begin with those that had come
-pub answers_grow : (asked_head : Bool) (side : ServerSide) (opened : ℕ) (prefix : List (Timed Event)) (e : Timed Event) → client_closed prefix ≡ false →
-    IsPrefixOf (answer_list asked_head (shut_over (Some side) opened prefix) (drop side.used (bytes_over (Some side) opened prefix))).interim
-    (answer_list asked_head (shut_over (Some side) opened (prefix ++ e ∷ [])) (drop side.used (bytes_over (Some side) opened (prefix ++ e ∷ [])))).interim
-answers_grow asked_head side opened prefix e open_client = answers_by (Server side.server) side.used opened prefix e asked_head open_client (drop_more opened prefix e)
+pub answers_grow : (asked_head : Bool) (side : ℕ) (opened used : ℕ) (prefix : List (Timed Event)) (e : Timed Event) → client_closed prefix ≡ false →
+    IsPrefixOf (answer_list asked_head (shut_over (Some side) opened prefix) (drop used (bytes_over (Some side) opened prefix))).interim
+    (answer_list asked_head (shut_over (Some side) opened (prefix ++ e ∷ [])) (drop used (bytes_over (Some side) opened (prefix ++ e ∷ [])))).interim
+answers_grow asked_head side opened used prefix e open_client = answers_by (Server side) used opened prefix e asked_head open_client (drop_more opened prefix e)
 
 -- more interim responses are more commands
 commands_by : (version : Version) (heads more : List ReadResponse) (request : Request) → request.version ≡ version →
@@ -150,27 +180,27 @@ commands_grow view request heads longer owed (more, is) = (
       ∙ append_assoc (seen_of view (interim_commands request heads)) (seen_of view (interim_commands request more)) (seen_of view owed)))),
 )
 
-abbrev placed : Stage → Since → ℕ → Standing
-placed stage since opened = record { stage = stage; since = since; opened = opened }
+abbrev placed : Stage → Since → ℕ → UsedBytes → Standing
+placed stage since opened used = record { stage = stage; since = since; opened = opened; used = used }
 
-grows_at : (onward : Stage → Stage) (terms : Terms) (view : View) (stage : Stage) (since : Since) (opened : ℕ) (prefix : List (Timed Event)) (e : Timed Event) →
+grows_at : (onward : Stage → Stage) (terms : Terms) (view : View) (stage : Stage) (since : Since) (opened : ℕ) (used : UsedBytes) (prefix : List (Timed Event)) (e : Timed Event) →
     client_closed prefix ≡ false →
-    IsPrefixOf (seen_of view (so_far stage (sight_over (placed stage since opened) prefix)))
-    (seen_of view (owed_over (http_chain onward terms) (placed stage since opened) (prefix ++ e ∷ [])))
-grows_at onward terms view (idle at) since opened prefix e open_client = (_, refl)
-grows_at onward terms view (busy at flow (request_body given)) since opened prefix e open_client = (_, refl)
-grows_at onward terms view (busy at flow connection) since opened prefix e open_client = (_, refl)
-grows_at onward terms view (busy at flow (response_head side how)) since opened prefix e open_client =
-    commands_grow view flow.request _ _ _ (answers_grow (is_head flow.request.method) side opened prefix e open_client)
-grows_at onward terms view (busy at flow (response_body side how)) since opened prefix e open_client = (_, refl)
-grows_at onward terms view (busy at flow (upgraded side)) since opened prefix e open_client = (_, refl)
-grows_at onward terms view (busy at flow given_head) since opened prefix e open_client = (_, refl)
-grows_at onward terms view (busy at flow given_body) since opened prefix e open_client = (_, refl)
-grows_at onward terms view (next at) since opened prefix e open_client = (_, refl)
-grows_at onward terms view over since opened prefix e open_client = (_, refl)
+    IsPrefixOf (seen_of view (so_far stage (sight_over (placed stage since opened used) prefix)))
+    (seen_of view (owed_over (http_chain onward terms) (placed stage since opened used) (prefix ++ e ∷ [])))
+grows_at onward terms view (idle at) since opened used prefix e open_client = (_, refl)
+grows_at onward terms view (busy at flow (request_body given)) since opened used prefix e open_client = (_, refl)
+grows_at onward terms view (busy at flow connection) since opened used prefix e open_client = (_, refl)
+grows_at onward terms view (busy at flow (response_head side how)) since opened used prefix e open_client =
+    commands_grow view flow.request _ _ _ (answers_grow (is_head flow.request.method) side opened used.server prefix e open_client)
+grows_at onward terms view (busy at flow (response_body side how)) since opened used prefix e open_client = (_, refl)
+grows_at onward terms view (busy at flow (upgraded side)) since opened used prefix e open_client = (_, refl)
+grows_at onward terms view (busy at flow given_head) since opened used prefix e open_client = (_, refl)
+grows_at onward terms view (busy at flow given_body) since opened used prefix e open_client = (_, refl)
+grows_at onward terms view (next at) since opened used prefix e open_client = (_, refl)
+grows_at onward terms view over since opened used prefix e open_client = (_, refl)
 
 -- In each view what is owed while it waits only grows.
 pub so_far_grows : (onward : Stage → Stage) (terms : Terms) (view : View) → SoFarGrows (http_chain onward terms) (seen_of view)
 so_far_grows onward terms view = record {
-  grows = λ place prefix e is. grows_at onward terms view place.stage place.since place.opened prefix e (open_still terms place.stage (sight_over place prefix) is);
+  grows = λ place prefix e is. grows_at onward terms view place.stage place.since place.opened place.used prefix e (open_still terms place.stage (sight_over place prefix) is);
 }

@@ -1,5 +1,5 @@
 -- Where a request is awaited, the end is found with nothing owed exactly where a whole CONNECT stands that asks for a tunnel.
-use Rattle.std.proofs.Common.{◌≡◌, ℕ, Bool, true, false, List, [], Option, Some, None, Result, Ok, Err, drop, refl, ap, sym, ◌∙◌}
+use Rattle.std.proofs.Common.{◌≡◌, ℕ, Bool, true, false, List, [], Option, Some, None, Result, Ok, Err, refl, ap, sym, ◌∙◌}
 use Rattle.std.specs.Prelude.{◌≢◌, bytes_eq}
 use Rattle.px_message.specs.declared.address.Address.{Address}
 use Rattle.px_message.specs.declared.fault.Fault.{Fault}
@@ -73,8 +73,8 @@ found_by terms index bytes (bad_body fault head body) moment parked closed there
     absurd (let e : bad_body fault head body ≡ complete head no_body [] whole.0 = whole.1 in cc)
 
 -- Where nothing is owed at the end that is found, a whole CONNECT stands.
-pub connect_found : (terms : Terms) (at : At) (seen : Sight) → find terms (idle at) seen ≡ Ends [] → (connect : Connect) × (connect_in terms.place (request_in at seen) ≡ Some connect)
-connect_found terms at seen is = found_by terms at.flow (drop at.used seen.client) (request_in at seen) seen.now (server_parked at.parked seen) seen.closed refl is
+pub connect_found : (terms : Terms) (at : At) (seen : Sight) → find terms (idle at) seen ≡ Ends [] → (connect : Connect) × (connect_in terms.place (request_in seen) ≡ Some connect)
+connect_found terms at seen is = found_by terms at.flow seen.client (request_in seen) seen.now (server_parked at.parked seen) seen.closed refl is
 
 judged_connect : (terms : Terms) (index : ℕ) (head : RequestHead) (made : Judged) (used moment : ℕ) (parked : Used) (closed : Bool) (connect : Connect) → connect_by made used ≡ Some connect →
     look_judged terms index head made moment parked closed ≡ Ends []
@@ -91,5 +91,5 @@ connect_by_item terms index (bad_head fault) moment parked closed connect is = a
 connect_by_item terms index (bad_body fault head body) moment parked closed connect is = absurd (let e : None ≡ Some connect = is in cc)
 
 -- Where one stands, the end is found, and nothing is owed.
-pub connect_there : (terms : Terms) (at : At) (seen : Sight) (connect : Connect) → connect_in terms.place (request_in at seen) ≡ Some connect → find terms (idle at) seen ≡ Ends []
-connect_there terms at seen connect is = connect_by_item terms at.flow (request_in at seen) seen.now (server_parked at.parked seen) seen.closed connect is
+pub connect_there : (terms : Terms) (at : At) (seen : Sight) (connect : Connect) → connect_in terms.place (request_in seen) ≡ Some connect → find terms (idle at) seen ≡ Ends []
+connect_there terms at seen connect is = connect_by_item terms at.flow (request_in seen) seen.now (server_parked at.parked seen) seen.closed connect is

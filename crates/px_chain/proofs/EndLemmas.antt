@@ -1,5 +1,5 @@
 -- What a reply brings at once, and what is owed at an end: bytes, then the end of a flow, then closes.
-use Rattle.std.proofs.Common.{ℕ, ◌+◌, Bool, true, false, Option, Some, None}
+use Rattle.std.proofs.Common.{ℕ, Bool, true, false, Option, Some, None}
 use Rattle.std.specs.Prelude.{◌==◌}
 use Rattle.px_message.specs.declared.flow.Flow.{Flow}
 use Rattle.px_message.specs.declared.request.Request.{Request}
@@ -18,13 +18,13 @@ use Rattle.px_exchange.specs.declared.taken.Taken.{Taken}
 use Rattle.px_exchange.specs.declared.taken.Taken.TheVariants.{GoesOn, Responds, Kills}
 use Rattle.px_exchange.specs.declared.place.Place.{Place}
 use Rattle.px_exchange.specs.declared.terms.Terms.{Terms}
-use Rattle.px_chain.specs.Chain.{behind, find, finish_by, goes_on_by, leaving, look, parked_for, side_behind, turn, turn_head, turn_judged, turn_taken_head, turn_body, turn_taken_body, turn_dial, turn_answer, turn_answer_head, turn_taken_answer, turn_returned, turn_taken_whole, turn_whole_answer, turn_response, turn_taken_returned, turn_taken_given, used_more}
+use Rattle.px_chain.specs.Chain.{behind, find, finish_by, goes_on_by, leaving, look, parked_for, turn, turn_head, turn_judged, turn_taken_head, turn_body, turn_taken_body, turn_dial, turn_answer, turn_answer_head, turn_taken_answer, turn_returned, turn_taken_whole, turn_whole_answer, turn_response, turn_taken_returned, turn_taken_given}
 use Rattle.px_exchange.specs.Flows.{response_of, with_answer, with_body, with_end, with_returned, with_start}
 use Rattle.px_exchange.specs.Endings.{without_response, killed_message, closed_message, connection_goes_on, shut_server}
 use Rattle.px_exchange.specs.EndOrder.{EndsInOrder, FoundInOrder, OnlyCloses}
 use Rattle.px_exchange.specs.Replies.{taken_at_request_body, taken_at_request_head, taken_at_response_body, taken_at_response_head}
 use Rattle.px_exchange.specs.Requests.{expects, flow_of, judged}
-use Rattle.px_chain.specs.Stages.{At, ServerSide, Stage, idle, busy, next, over, request_body, connection, response_head, response_body, given_head, given_body, upgraded}
+use Rattle.px_chain.specs.Stages.{At, Stage, idle, busy, next, over, request_body, connection, response_head, response_body, given_head, given_body, upgraded}
 use Rattle.px_exchange.proofs.OrderLemmas.{closes_end, server_closes, early_ends, finished_ends, dial_ends, expectation_ends, head_ends, body_ends, answer_ends, returned_ends, leaves_ends}
 use Rattle.px_chain.specs.Sights.{Sight, answers_in, request_in, server_in, server_parked}
 
@@ -32,11 +32,11 @@ use Rattle.px_chain.specs.Sights.{Sight, answers_in, request_in, server_in, serv
 
 module _ (terms : Terms) where
   finds_ends : (stage : Stage) (seen : Sight) → FoundInOrder (find terms stage seen)
-  finds_ends (idle at) seen = head_ends terms at.flow (request_in at seen) seen.now (server_parked at.parked seen) seen.closed
-  finds_ends (busy at flow (request_body given)) seen = body_ends flow (request_in at seen) seen.now (server_parked at.parked seen) seen.closed
+  finds_ends (idle at) seen = head_ends terms at.flow (request_in seen) seen.now (server_parked at.parked seen) seen.closed
+  finds_ends (busy at flow (request_body given)) seen = body_ends flow (request_in seen) seen.now (server_parked at.parked seen) seen.closed
   finds_ends (busy at flow connection) seen = tt
-  finds_ends (busy at flow (response_head side how)) seen = answer_ends flow (answers_in flow.request side seen).final seen.now (server_in side seen) seen.closed
-  finds_ends (busy at flow (response_body side how)) seen = returned_ends flow (answers_in flow.request side seen).final seen.now (server_in side seen) seen.closed
+  finds_ends (busy at flow (response_head side how)) seen = answer_ends flow (answers_in flow.request seen).final seen.now (server_in side seen) seen.closed
+  finds_ends (busy at flow (response_body side how)) seen = returned_ends flow (answers_in flow.request seen).final seen.now (server_in side seen) seen.closed
   finds_ends (busy at flow (upgraded side)) seen = tt
   finds_ends (busy at flow given_head) seen = tt
   finds_ends (busy at flow given_body) seen = tt
@@ -79,7 +79,7 @@ module _ (terms : Terms) where
   turn_head_ends at (bad_head fault) seen answer = tt
   turn_head_ends at (bad_body fault head body) seen answer = turn_judged_ends at head (judged terms.place head) seen answer
 
-  goes_on_ends : (side : Option ServerSide) (place : Place) (at : At) (flow : Flow) → EndsInOrder (goes_on_by side place at flow).owed
+  goes_on_ends : (side : Option ℕ) (place : Place) (at : At) (flow : Flow) → EndsInOrder (goes_on_by side place at flow).owed
   goes_on_ends None place at flow = tt
   goes_on_ends (Some side) place at flow = tt
 
@@ -94,23 +94,23 @@ module _ (terms : Terms) where
   turn_body_ends place at flow (part head body) seen answer = tt
   turn_body_ends place at flow (complete head body trailers used) seen answer =
       let asked_flow : Flow = with_body flow body.content trailers seen.now in
-      taken_body_ends place (used_more at used) asked_flow (taken_at_request_body asked_flow.request answer.value) answer.moment seen
+      taken_body_ends place at asked_flow (taken_at_request_body asked_flow.request answer.value) answer.moment seen
   turn_body_ends place at flow (bad_head fault) seen answer = tt
   turn_body_ends place at flow (bad_body fault head body) seen answer = tt
 
   turn_dial_ends : (place : Place) (at : At) (flow : Flow) (answer : Timed Reply) (closed : Bool) → EndsInOrder (turn_dial place at flow answer closed).owed
   turn_dial_ends place at flow answer closed = dial_ends place flow at.dials answer.value answer.moment closed
 
-  taken_answer_ends : (at : At) (flow : Flow) (side : ServerSide) (taken : Taken Response) (moment : ℕ) (used : Used) (closed : Bool) → EndsInOrder (turn_taken_answer at flow side taken moment used closed).owed
+  taken_answer_ends : (at : At) (flow : Flow) (side : ℕ) (taken : Taken Response) (moment : ℕ) (used : Used) (closed : Bool) → EndsInOrder (turn_taken_answer at flow side taken moment used closed).owed
   taken_answer_ends at flow side (GoesOn message) moment used closed = tt
   taken_answer_ends at flow side (Responds response) moment used closed = early_ends (without_response flow) killed_message moment used closed
   taken_answer_ends at flow side Kills moment used closed = early_ends (without_response flow) killed_message moment used closed
 
-  answer_head_ends : (at : At) (flow : Flow) (side : ServerSide) (head : ReadResponse) (seen : Sight) (answer : Timed Reply) → EndsInOrder (turn_answer_head at flow side head seen answer).owed
+  answer_head_ends : (at : At) (flow : Flow) (side : ℕ) (head : ReadResponse) (seen : Sight) (answer : Timed Reply) → EndsInOrder (turn_answer_head at flow side head seen answer).owed
   answer_head_ends at flow side head seen answer =
       taken_answer_ends at (with_answer flow (response_of head) seen.now) side (taken_at_response_head (response_of head) answer.value) answer.moment (server_in side seen) seen.closed
 
-  turn_answer_ends : (at : At) (flow : Flow) (side : ServerSide) (item : Item ReadResponse) (seen : Sight) (answer : Timed Reply) → EndsInOrder (turn_answer at flow side item seen answer).owed
+  turn_answer_ends : (at : At) (flow : Flow) (side : ℕ) (item : Item ReadResponse) (seen : Sight) (answer : Timed Reply) → EndsInOrder (turn_answer at flow side item seen answer).owed
   turn_answer_ends at flow side missing seen answer = tt
   turn_answer_ends at flow side (part head body) seen answer = answer_head_ends at flow side head seen answer
   turn_answer_ends at flow side (complete head body trailers size) seen answer = answer_head_ends at flow side head seen answer
@@ -132,29 +132,28 @@ module _ (terms : Terms) where
       response_ends flow.response (λ message. taken_at_response_body message answer.value) (λ taken. turn_taken_returned at flow taken answer.moment used closed)
       (λ taken. taken_returned_ends at flow taken answer.moment used closed)
 
-  finish_ends : (switches : Bool) (at : At) (flow : Flow) (message : Response) (side : ServerSide) (used : Used) (closed : Bool) →
+  finish_ends : (switches : Bool) (at : At) (flow : Flow) (message : Response) (side : ℕ) (used : Used) (closed : Bool) →
       EndsInOrder (finish_by switches at flow message side used closed).owed
   finish_ends true at flow message side used closed = tt
   finish_ends false at flow message side used closed = finished_ends flow message used NoServer (connection_goes_on at.flow flow.request message) closed
 
-  taken_whole_ends : (at : At) (flow : Flow) (side : ServerSide) (taken : Taken Response) (moment : ℕ) (used : Used) (closed : Bool) →
+  taken_whole_ends : (at : At) (flow : Flow) (side : ℕ) (taken : Taken Response) (moment : ℕ) (used : Used) (closed : Bool) →
       EndsInOrder (turn_taken_whole at flow side taken moment used closed).owed
   taken_whole_ends at flow side (GoesOn message) moment used closed = finish_ends (message.status == 101) at flow message side used closed
   taken_whole_ends at flow side (Responds response) moment used closed = early_ends flow killed_message moment used closed
   taken_whole_ends at flow side Kills moment used closed = early_ends flow killed_message moment used closed
 
-  turn_returned_ends : (at : At) (flow : Flow) (side : ServerSide) (interim : ℕ) (item : Item ReadResponse) (seen : Sight) (answer : Timed Reply) →
-      EndsInOrder (turn_returned at flow side interim item seen answer).owed
-  turn_returned_ends at flow side interim missing seen answer = tt
-  turn_returned_ends at flow side interim (part head body) seen answer = tt
-  turn_returned_ends at flow side interim (complete head body trailers size) seen answer =
+  turn_returned_ends : (at : At) (flow : Flow) (side : ℕ) (item : Item ReadResponse) (seen : Sight) (answer : Timed Reply) →
+      EndsInOrder (turn_returned at flow side item seen answer).owed
+  turn_returned_ends at flow side missing seen answer = tt
+  turn_returned_ends at flow side (part head body) seen answer = tt
+  turn_returned_ends at flow side (complete head body trailers size) seen answer =
       let asked_flow : Flow = with_returned flow body.content trailers seen.now in
-      let behind : ServerSide = side_behind side (interim + size) in
       response_ends asked_flow.response (λ message. taken_at_response_body message answer.value)
-      (λ taken. turn_taken_whole at asked_flow behind taken answer.moment (server_in side seen) seen.closed)
-      (λ taken. taken_whole_ends at asked_flow behind taken answer.moment (server_in side seen) seen.closed)
-  turn_returned_ends at flow side interim (bad_head fault) seen answer = tt
-  turn_returned_ends at flow side interim (bad_body fault head body) seen answer = tt
+      (λ taken. turn_taken_whole at asked_flow side taken answer.moment (server_in side seen) seen.closed)
+      (λ taken. taken_whole_ends at asked_flow side taken answer.moment (server_in side seen) seen.closed)
+  turn_returned_ends at flow side (bad_head fault) seen answer = tt
+  turn_returned_ends at flow side (bad_body fault head body) seen answer = tt
 
   given_ends : (at : At) (flow : Flow) (taken : Taken Response) (moment : ℕ) (parked : Used) (closed : Bool) → EndsInOrder (turn_taken_given at flow taken moment parked closed).owed
   given_ends at flow (GoesOn message) moment parked closed = tt
@@ -163,11 +162,11 @@ module _ (terms : Terms) where
 
   -- What a reply brings is in order.
   pub turns_in_order : (stage : Stage) (seen : Sight) (answer : Timed Reply) → EndsInOrder (turn terms stage seen answer).owed
-  turns_in_order (idle at) seen answer = turn_head_ends at (request_in at seen) seen answer
-  turns_in_order (busy at flow (request_body given)) seen answer = turn_body_ends terms.place at flow (request_in at seen) seen answer
+  turns_in_order (idle at) seen answer = turn_head_ends at (request_in seen) seen answer
+  turns_in_order (busy at flow (request_body given)) seen answer = turn_body_ends terms.place at flow (request_in seen) seen answer
   turns_in_order (busy at flow connection) seen answer = turn_dial_ends terms.place at flow answer seen.closed
-  turns_in_order (busy at flow (response_head side how)) seen answer = turn_answer_ends at flow side (answers_in flow.request side seen).final seen answer
-  turns_in_order (busy at flow (response_body side how)) seen answer = turn_returned_ends at flow side (answers_in flow.request side seen).used (answers_in flow.request side seen).final seen answer
+  turns_in_order (busy at flow (response_head side how)) seen answer = turn_answer_ends at flow side (answers_in flow.request seen).final seen answer
+  turns_in_order (busy at flow (response_body side how)) seen answer = turn_returned_ends at flow side (answers_in flow.request seen).final seen answer
   turns_in_order (busy at flow (upgraded side)) seen answer = tt
   turns_in_order (busy at flow given_head) seen answer =
       let asked_flow : Flow = with_start flow seen.now in

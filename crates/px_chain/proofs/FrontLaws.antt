@@ -58,6 +58,17 @@ bytes_shut side (f ∷ prefix) e shut =
     shut_by (closes Client f.value) (closes side f.value) (is_closed side prefix) (piece_of side f.value)
     (bytes_of side prefix) (bytes_of side (prefix ++ e ∷ [])) shut (bytes_shut side prefix e)
 
+grows_by : (gone : Bool) (piece rest rest' : List ℕ) → length rest ≤ length rest' →
+    length (if gone then [] else (piece ++ rest)) ≤ length (if gone then [] else (piece ++ rest'))
+grows_by true piece rest rest' more = omega arith
+grows_by false piece rest rest' more = let was = length-append piece rest in let is = length-append piece rest' in omega arith
+
+-- no byte that came goes away
+pub bytes_grow : (side : Side) (prefix : List (Timed Event)) (e : Timed Event) → length (bytes_of side prefix) ≤ length (bytes_of side (prefix ++ e ∷ []))
+bytes_grow side [] e = omega arith
+bytes_grow side (f ∷ prefix) e =
+    grows_by (closes Client f.value || closes side f.value) (piece_of side f.value) (bytes_of side prefix) (bytes_of side (prefix ++ e ∷ [])) (bytes_grow side prefix e)
+
 stays_by : (c s more more' : Bool) → (if s then true else (if c then false else more)) ≡ true → (more ≡ true → more' ≡ true) →
     (if s then true else (if c then false else more')) ≡ true
 stays_by c true more more' shut on = refl

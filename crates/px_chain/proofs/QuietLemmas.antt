@@ -24,7 +24,7 @@ use Rattle.px_exchange.specs.declared.ending.Used.TheVariants.{NoServer, ByServe
 use Rattle.px_exchange.specs.declared.taken.Taken.{Taken}
 use Rattle.px_exchange.specs.declared.taken.Taken.TheVariants.{GoesOn, Responds, Kills}
 use Rattle.px_exchange.specs.declared.terms.Terms.{Terms}
-use Rattle.px_chain.specs.Chain.{behind, dial_leads, find, finish, finish_by, goes_on_by, parked_for, side_behind, turn_taken_whole, leaving, look, pass, pass_body, so_far, turn, turn_head, turn_judged, turn_taken_head, turn_body, turn_taken_body, turn_answer, turn_answer_head, turn_taken_answer, turn_returned, turn_whole_answer, turn_response, turn_taken_returned, turn_taken_given, killed, behind_flow, used_more}
+use Rattle.px_chain.specs.Chain.{behind, dial_leads, find, finish, finish_by, goes_on_by, parked_for, turn_taken_whole, leaving, look, pass, pass_body, so_far, turn, turn_head, turn_judged, turn_taken_head, turn_body, turn_taken_body, turn_answer, turn_answer_head, turn_taken_answer, turn_returned, turn_whole_answer, turn_response, turn_taken_returned, turn_taken_given, killed, behind_flow}
 use Rattle.px_exchange.specs.Finds.{or_leaves, look_head, look_judged, look_body, look_answer, look_answer_head, look_returned, is_relayed}
 use Rattle.px_exchange.specs.Texts.{meets_expectation, interim_command, interim_commands}
 use Rattle.px_exchange.specs.Dials.{dial_owes}
@@ -35,7 +35,7 @@ use Rattle.px_chain.proofs.Quiet.{AllQuiet, LooksQuiet, IsOf, any_flow, no_flow,
 use Rattle.px_exchange.specs.Replies.{taken_at_request_body, taken_at_request_head, taken_at_response_body, taken_at_response_head}
 use Rattle.px_exchange.specs.declared.place.Place.{Place}
 use Rattle.px_exchange.specs.Requests.{is_head, expects, flow_of, judged}
-use Rattle.px_chain.specs.Stages.{At, ServerSide, Stage, idle, busy, next, over, request_body, connection, response_head, response_body, given_head, given_body, upgraded, place_of, unparked}
+use Rattle.px_chain.specs.Stages.{At, Stage, idle, busy, next, over, request_body, connection, response_head, response_body, given_head, given_body, upgraded, place_of, unparked}
 use Rattle.px_chain.specs.Sights.{Sight, answers_in, request_in, server_in, server_parked}
 
 -- ---- lists
@@ -144,13 +144,13 @@ module _ (names : FlowId → Type 0) where
     returned_quiet flow (bad_body fault head body) moment used closed is = fault_quiet flow fault moment used closed is
 
     finds_quiet : (stage : Stage) (seen : Sight) → IsOf terms names stage → LooksQuiet names (find terms stage seen)
-    finds_quiet (idle at) seen is = head_quiet at.flow (request_in at seen) seen.now (server_parked at.parked seen) seen.closed is
-    finds_quiet (busy at flow (request_body given)) seen is = body_quiet flow (request_in at seen) seen.now (server_parked at.parked seen) seen.closed is
+    finds_quiet (idle at) seen is = head_quiet at.flow (request_in seen) seen.now (server_parked at.parked seen) seen.closed is
+    finds_quiet (busy at flow (request_body given)) seen is = body_quiet flow (request_in seen) seen.now (server_parked at.parked seen) seen.closed is
     finds_quiet (busy at flow connection) seen is = tt
     finds_quiet (busy at flow (response_head side how)) seen is =
-        answer_quiet flow (answers_in flow.request side seen).final seen.now (server_in side seen) seen.closed is
+        answer_quiet flow (answers_in flow.request seen).final seen.now (server_in side seen) seen.closed is
     finds_quiet (busy at flow (response_body side how)) seen is =
-        returned_quiet flow (answers_in flow.request side seen).final seen.now (server_in side seen) seen.closed is
+        returned_quiet flow (answers_in flow.request seen).final seen.now (server_in side seen) seen.closed is
     finds_quiet (busy at flow (upgraded side)) seen is = tt
     finds_quiet (busy at flow given_head) seen is = (is, refl)
     finds_quiet (busy at flow given_body) seen is = (is, refl)
@@ -211,7 +211,7 @@ module _ (names : FlowId → Type 0) where
       head_led at (bad_head fault) seen answer at_flow more is = over_led [] tt
       head_led at (bad_body fault head body) seen answer at_flow more is = judged_led at head (judged terms.place head) seen answer at_flow more is
 
-      goes_on_led : (side : Option ServerSide) (place : Place) (at : At) (flow : Flow) → SameFlow flow_now dials at → 3 < count → names flow.id →
+      goes_on_led : (side : Option ℕ) (place : Place) (at : At) (flow : Flow) → SameFlow flow_now dials at → 3 < count → names flow.id →
           Led (goes_on_by side place at flow)
       goes_on_led None place at flow at_flow more is = record { quiet = tt; is_of = is; ends_none = tt; behind = (at_flow, more) }
       goes_on_led (Some side) place at flow at_flow more is =
@@ -230,7 +230,7 @@ module _ (names : FlowId → Type 0) where
       body_led place at flow (part head body) seen answer at_flow more is = over_led [] tt
       body_led place at flow (complete head body trailers used) seen answer at_flow more is =
           let asked_flow : Flow = with_body flow body.content trailers seen.now in
-          taken_body_led place (used_more at used) asked_flow (taken_at_request_body asked_flow.request answer.value) answer.moment seen at_flow more is
+          taken_body_led place at asked_flow (taken_at_request_body asked_flow.request answer.value) answer.moment seen at_flow more is
       body_led place at flow (bad_head fault) seen answer at_flow more is = over_led [] tt
       body_led place at flow (bad_body fault head body) seen answer at_flow more is = over_led [] tt
 
@@ -244,18 +244,18 @@ module _ (names : FlowId → Type 0) where
       dial_led at flow reply.Kill moment closed at_flow more is = over_led [] tt
       dial_led at flow reply.Discard moment closed at_flow more is = over_led [] tt
 
-      taken_answer_led : (at : At) (flow : Flow) (side : ServerSide) (taken : Taken Response) (moment : ℕ) (used : Used) (closed : Bool) → SameFlow flow_now dials at → 1 < count → names flow.id →
+      taken_answer_led : (at : At) (flow : Flow) (side : ℕ) (taken : Taken Response) (moment : ℕ) (used : Used) (closed : Bool) → SameFlow flow_now dials at → 1 < count → names flow.id →
           Led (turn_taken_answer at flow side taken moment used closed)
       taken_answer_led at flow side (GoesOn message) moment used closed at_flow more is = record { quiet = tt; is_of = is; ends_none = tt; behind = (at_flow, more) }
       taken_answer_led at flow side (Responds response) moment used closed at_flow more is = killed_led (without_response flow) moment used closed is
       taken_answer_led at flow side Kills moment used closed at_flow more is = killed_led (without_response flow) moment used closed is
 
-      answer_head_led : (at : At) (flow : Flow) (side : ServerSide) (head : ReadResponse) (seen : Sight) (answer : Timed Reply) → SameFlow flow_now dials at → 1 < count → names flow.id →
+      answer_head_led : (at : At) (flow : Flow) (side : ℕ) (head : ReadResponse) (seen : Sight) (answer : Timed Reply) → SameFlow flow_now dials at → 1 < count → names flow.id →
           Led (turn_answer_head at flow side head seen answer)
       answer_head_led at flow side head seen answer at_flow more is =
           taken_answer_led at (with_answer flow (response_of head) seen.now) side (taken_at_response_head (response_of head) answer.value) answer.moment (server_in side seen) seen.closed at_flow more is
 
-      answer_led : (at : At) (flow : Flow) (side : ServerSide) (item : Item ReadResponse) (seen : Sight) (answer : Timed Reply) → SameFlow flow_now dials at → 1 < count → names flow.id →
+      answer_led : (at : At) (flow : Flow) (side : ℕ) (item : Item ReadResponse) (seen : Sight) (answer : Timed Reply) → SameFlow flow_now dials at → 1 < count → names flow.id →
           Led (turn_answer at flow side item seen answer)
       answer_led at flow side missing seen answer at_flow more is = over_led [] tt
       answer_led at flow side (part head body) seen answer at_flow more is = answer_head_led at flow side head seen answer at_flow more is
@@ -298,29 +298,28 @@ module _ (names : FlowId → Type 0) where
           response_led flow.response (λ message. taken_at_response_body message answer.value) (λ taken. turn_taken_returned at flow taken answer.moment used closed)
           (λ taken. taken_returned_led at flow taken answer.moment used closed at_flow is)
 
-      finish_by_led : (switches : Bool) (at : At) (flow : Flow) (message : Response) (side : ServerSide) (used : Used) (closed : Bool) → SameFlow flow_now dials at → 0 < count → names flow.id →
+      finish_by_led : (switches : Bool) (at : At) (flow : Flow) (message : Response) (side : ℕ) (used : Used) (closed : Bool) → SameFlow flow_now dials at → 0 < count → names flow.id →
           Led (finish_by switches at flow message side used closed)
       finish_by_led true at flow message side used closed at_flow more is = record { quiet = (tt, tt); is_of = is; ends_none = (tt, tt); behind = (at_flow, more) }
       finish_by_led false at flow message side used closed at_flow more is = finished_led (unparked at) flow message used NoServer closed at_flow is
 
-      taken_whole_led : (at : At) (flow : Flow) (side : ServerSide) (taken : Taken Response) (moment : ℕ) (used : Used) (closed : Bool) → SameFlow flow_now dials at → 0 < count → names flow.id →
+      taken_whole_led : (at : At) (flow : Flow) (side : ℕ) (taken : Taken Response) (moment : ℕ) (used : Used) (closed : Bool) → SameFlow flow_now dials at → 0 < count → names flow.id →
           Led (turn_taken_whole at flow side taken moment used closed)
       taken_whole_led at flow side (GoesOn message) moment used closed at_flow more is = finish_by_led (message.status == 101) at flow message side used closed at_flow more is
       taken_whole_led at flow side (Responds response) moment used closed at_flow more is = killed_led flow moment used closed is
       taken_whole_led at flow side Kills moment used closed at_flow more is = killed_led flow moment used closed is
 
-      returned_led : (at : At) (flow : Flow) (side : ServerSide) (interim : ℕ) (item : Item ReadResponse) (seen : Sight) (answer : Timed Reply) → SameFlow flow_now dials at → 0 < count → names flow.id →
-          Led (turn_returned at flow side interim item seen answer)
-      returned_led at flow side interim missing seen answer at_flow more is = over_led [] tt
-      returned_led at flow side interim (part head body) seen answer at_flow more is = over_led [] tt
-      returned_led at flow side interim (complete head body trailers size) seen answer at_flow more is =
+      returned_led : (at : At) (flow : Flow) (side : ℕ) (item : Item ReadResponse) (seen : Sight) (answer : Timed Reply) → SameFlow flow_now dials at → 0 < count → names flow.id →
+          Led (turn_returned at flow side item seen answer)
+      returned_led at flow side missing seen answer at_flow more is = over_led [] tt
+      returned_led at flow side (part head body) seen answer at_flow more is = over_led [] tt
+      returned_led at flow side (complete head body trailers size) seen answer at_flow more is =
           let asked_flow : Flow = with_returned flow body.content trailers seen.now in
-          let behind : ServerSide = side_behind side (interim + size) in
           response_led asked_flow.response (λ message. taken_at_response_body message answer.value)
-          (λ taken. turn_taken_whole at asked_flow behind taken answer.moment (server_in side seen) seen.closed)
-          (λ taken. taken_whole_led at asked_flow behind taken answer.moment (server_in side seen) seen.closed at_flow more is)
-      returned_led at flow side interim (bad_head fault) seen answer at_flow more is = over_led [] tt
-      returned_led at flow side interim (bad_body fault head body) seen answer at_flow more is = over_led [] tt
+          (λ taken. turn_taken_whole at asked_flow side taken answer.moment (server_in side seen) seen.closed)
+          (λ taken. taken_whole_led at asked_flow side taken answer.moment (server_in side seen) seen.closed at_flow more is)
+      returned_led at flow side (bad_head fault) seen answer at_flow more is = over_led [] tt
+      returned_led at flow side (bad_body fault head body) seen answer at_flow more is = over_led [] tt
 
       given_led : (at : At) (flow : Flow) (taken : Taken Response) (moment : ℕ) (parked : Used) (closed : Bool) → SameFlow flow_now dials at → 1 < count → names flow.id →
           Led (turn_taken_given at flow taken moment parked closed)
@@ -336,15 +335,15 @@ IsGoing stage = ⊤
 pub turn_led : (terms : Terms) (names : FlowId → Type 0) (stage : Stage) (seen : Sight) (answer : Timed Reply) → IsGoing stage → IsOf terms names stage →
     Leads terms names (place_of stage).flow (place_of stage).dials (stage_left stage) (turn terms stage seen answer)
 turn_led terms names (idle at) seen answer goes is =
-    head_led names terms at.flow at.dials 5 at (request_in at seen) seen answer (refl, omega arith) (omega arith) is
+    head_led names terms at.flow at.dials 5 at (request_in seen) seen answer (refl, omega arith) (omega arith) is
 turn_led terms names (busy at flow (request_body given)) seen answer goes is =
-    body_led names terms at.flow at.dials 4 terms.place at flow (request_in at seen) seen answer (refl, omega arith) (omega arith) is
+    body_led names terms at.flow at.dials 4 terms.place at flow (request_in seen) seen answer (refl, omega arith) (omega arith) is
 turn_led terms names (busy at flow connection) seen answer goes is =
     dial_led names terms at.flow at.dials 3 at flow answer.value answer.moment seen.closed (refl, omega arith) (omega arith) is
 turn_led terms names (busy at flow (response_head side how)) seen answer goes is =
-    answer_led names terms at.flow at.dials 2 at flow side (answers_in flow.request side seen).final seen answer (refl, omega arith) (omega arith) is
+    answer_led names terms at.flow at.dials 2 at flow side (answers_in flow.request seen).final seen answer (refl, omega arith) (omega arith) is
 turn_led terms names (busy at flow (response_body side how)) seen answer goes is =
-    returned_led names terms at.flow at.dials 1 at flow side (answers_in flow.request side seen).used (answers_in flow.request side seen).final seen answer
+    returned_led names terms at.flow at.dials 1 at flow side (answers_in flow.request seen).final seen answer
     (refl, omega arith) (omega arith) is
 turn_led terms names (busy at flow (upgraded side)) seen answer goes is = over_led names terms at.flow at.dials 0 [] tt
 turn_led terms names (busy at flow given_head) seen answer goes is =
@@ -400,7 +399,7 @@ pass_of_by terms names at flow (Some response) (bad_body fault head body) now is
 
 pub pass_of : (terms : Terms) (names : FlowId → Type 0) (stage : Stage) (seen : Sight) → IsOf terms names stage → IsOf terms names (pass stage seen)
 pass_of terms names (idle at) seen is = is
-pass_of terms names (busy at flow (request_body given)) seen is = pass_of_by terms names at flow given (request_in at seen) seen.now is
+pass_of terms names (busy at flow (request_body given)) seen is = pass_of_by terms names at flow given (request_in seen) seen.now is
 pass_of terms names (busy at flow connection) seen is = is
 pass_of terms names (busy at flow (response_head side how)) seen is = is
 pass_of terms names (busy at flow (response_body side how)) seen is = is

@@ -28,11 +28,11 @@ use Rattle.px_exchange.specs.Flows.{with_body}
 use Rattle.px_exchange.specs.Places.{form_at, is_same_address, server_for}
 use Rattle.px_exchange.specs.Replies.{taken_at_request_body}
 use Rattle.px_exchange.specs.Texts.{onward_text}
-use Rattle.px_chain.specs.Chain.{IsOnward, begin, dial_leads, goes_on_by, http_chain, is_alone, is_sequence, parked_for, pass, pass_body, sequence, side_if, turn, turn_body, turn_taken_body, used_more}
+use Rattle.px_chain.specs.Chain.{IsOnward, begin, dial_leads, goes_on_by, http_chain, is_alone, is_sequence, parked_for, pass, pass_body, sequence, side_if, turn, turn_body, turn_taken_body}
 use Rattle.px_chain.specs.Sent.{GoesToParked, IsRequestText, IsSentOnce, nothing, one_request}
 use Rattle.px_chain.specs.Sights.{Sight, Standing, request_in, server_parked, sight_over}
 use Rattle.px_chain.specs.Silent.{ParkedBelow, connects}
-use Rattle.px_chain.specs.Stages.{At, Parked, ServerSide, Stage, busy, connection, given_body, given_head, idle, next, over, request_body, response_body, response_head, side_parked, upgraded}
+use Rattle.px_chain.specs.Stages.{At, Parked, Stage, busy, connection, given_body, given_head, idle, next, over, request_body, response_body, response_head, side_parked, upgraded}
 use Rattle.px_chain.proofs.CountedLemmas.{IsSilent}
 use Rattle.px_chain.proofs.OnceLemmas.{IsOnce, SaysOnce, SpeaksOnce, nothing as never_said, one_text, says_nothing, says_text, sent_to, spoken_once}
 use Rattle.px_chain.proofs.SilentLemmas.{AreBelow, IsBetween, IsParkedFrom, ServersBelow, SideBelow, behind_silent, beyond_by, dialled, early_silent, fault_silent, for_below, http_counts, looks_silent, none_parked, parked_at, parked_below, same_parked, so_far_silent, turn_leads, turns_counted}
@@ -56,7 +56,7 @@ module _ (holds : ℕ → Option Parked → Type 0) where
 
   at_passed : (stage : Stage) (seen : Sight) → IsAt holds stage → IsAt holds (pass stage seen)
   at_passed (idle at) seen is = is
-  at_passed (busy at flow (request_body given)) seen is = body_passed at flow given (request_in at seen) seen.now is
+  at_passed (busy at flow (request_body given)) seen is = body_passed at flow given (request_in seen) seen.now is
   at_passed (busy at flow connection) seen is = is
   at_passed (busy at flow (response_head side how)) seen is = is
   at_passed (busy at flow (response_body side how)) seen is = is
@@ -98,7 +98,7 @@ module _ (holds : ℕ → Option Parked → Type 0) where
 -- the parked side is of another server
 abbrev IsOther : ℕ → Option Parked → Type 0
 IsOther server None = ⊤
-IsOther server (Some parked) = parked.side.server ≢ server
+IsOther server (Some parked) = parked.server ≢ server
 
 -- it was dialled, and is not parked
 abbrev IsBehind : ℕ → ℕ → Option Parked → Type 0
@@ -116,22 +116,22 @@ left_on first was parked (same_parked is) left = rw is left
 left_on first was parked (none_parked is) left = none_parked is
 
 -- a request goes to the side that is parked, where it goes to its address
-side_if_there : (to_it : Bool) (parked side : ServerSide) → side_if to_it parked ≡ Some side → (to_it ≡ true) × (parked.server ≡ side.server)
+side_if_there : (to_it : Bool) (parked side : ℕ) → side_if to_it parked ≡ Some side → (to_it ≡ true) × (parked ≡ side)
 side_if_there true parked side is = (refl, (let e : Some parked ≡ Some side = is in cc))
 side_if_there false parked side is = absurd (let e : None ≡ Some side = is in cc)
 
-goes_to : (place : Place) (request : Request) (parked : Option Parked) (side : ServerSide) (server : ℕ) → parked_for place request parked ≡ Some side → side.server ≡ server →
+goes_to : (place : Place) (request : Request) (parked : Option Parked) (side : ℕ) (server : ℕ) → parked_for place request parked ≡ Some side → side ≡ server →
     GoesToParked place parked server request
 goes_to place request None side server is same = absurd (let e : None ≡ Some side = is in cc)
 goes_to place request (Some parked) side server is same =
-    let there = side_if_there (is_same_address parked.address (server_for place request)) parked.side side is in
+    let there = side_if_there (is_same_address parked.address (server_for place request)) parked.server side is in
     record { side = parked; there = refl; number = there.1 ∙ same; address = there.0 }
 
 -- which is no other
 not_other : (place : Place) (request : Request) (parked : Option Parked) (server : ℕ) → GoesToParked place parked server request → IsOther server parked → ⊥
 not_other place request None server goes other = let e : None ≡ Some goes.side = goes.there in cc
 not_other place request (Some parked) server goes other =
-    other (let e : Some parked ≡ Some goes.side = goes.there in let number : goes.side.side.server ≡ server = goes.number in cc)
+    other (let e : Some parked ≡ Some goes.side = goes.there in let number : goes.side.server ≡ server = goes.number in cc)
 
 -- and the one that the conversation began with
 first_goes : (place : Place) (request : Request) (first parked : Option Parked) (server : ℕ) → IsParkedFrom first parked → GoesToParked place parked server request →
@@ -165,18 +165,18 @@ module _ (server : ℕ) (terms : Terms) where
     abbrev from : Stage
     from = busy asked asked_flow (request_body given)
 
-    parked_says : (side : ServerSide) (at : At) (flow : Flow) → parked_for terms.place flow.request asked.parked ≡ Some side → side.server < at.dials →
-        (same : Bool) → (side.server == server) ≡ same → Says from (goes_on_by (Some side) terms.place at flow)
+    parked_says : (side : ℕ) (at : At) (flow : Flow) → parked_for terms.place flow.request asked.parked ≡ Some side → side < at.dials →
+        (same : Bool) → (side == server) ≡ same → Says from (goes_on_by (Some side) terms.place at flow)
     parked_says side at flow there below true is =
-        let number = eqb-true side.server server is in
-        by_parked asked asked_flow given flow.request refl (goes_to terms.place flow.request asked.parked side server there number) (connected_said flow side.server is)
+        let number = eqb-true side server is in
+        by_parked asked asked_flow given flow.request refl (goes_to terms.place flow.request asked.parked side server there number) (connected_said flow side is)
         (omega arith, tt)
-    parked_says side at flow there below false is = silent (connected_silent flow side.server is)
+    parked_says side at flow there below false is = silent (connected_silent flow side is)
 
-    goes_on_says : (side : Option ServerSide) (at : At) (flow : Flow) → parked_for terms.place flow.request asked.parked ≡ side → SideBelow side at.dials →
+    goes_on_says : (side : Option ℕ) (at : At) (flow : Flow) → parked_for terms.place flow.request asked.parked ≡ side → SideBelow side at.dials →
         Says from (goes_on_by side terms.place at flow)
     goes_on_says None at flow there below = silent refl
-    goes_on_says (Some side) at flow there below = parked_says side at flow there below (side.server == server) refl
+    goes_on_says (Some side) at flow there below = parked_says side at flow there below (side == server) refl
 
     taken_body_says : (at : At) (flow : Flow) (taken : Taken Request) (moment : ℕ) (seen : Sight) → at.parked ≡ asked.parked → SideBelow (side_parked at.parked) at.dials →
         Says from (turn_taken_body terms.place at flow taken moment seen)
@@ -192,7 +192,7 @@ module _ (server : ℕ) (terms : Terms) where
     body_says (part head body) seen answer below = silent refl
     body_says (complete head body trailers used) seen answer below =
         let whole : Flow = with_body asked_flow body.content trailers seen.now in
-        taken_body_says (used_more asked used) whole (taken_at_request_body whole.request answer.value) answer.moment seen refl below
+        taken_body_says asked whole (taken_at_request_body whole.request answer.value) answer.moment seen refl below
     body_says (bad_head fault) seen answer below = silent refl
     body_says (bad_body fault head body) seen answer below = silent refl
 
@@ -213,7 +213,7 @@ module _ (server : ℕ) (terms : Terms) where
 
   turn_says : (from : Stage) (seen : Sight) (answer : Timed Reply) → ServersBelow from → Says from (turn terms from seen answer)
   turn_says (idle at) seen answer below = silent (turn_leads server terms (idle at) seen answer below tt).0
-  turn_says (busy at flow (request_body given)) seen answer below = body_says at flow given (request_in at seen) seen answer below
+  turn_says (busy at flow (request_body given)) seen answer below = body_says at flow given (request_in seen) seen answer below
   turn_says (busy at flow connection) seen answer below = dial_says at flow answer.value answer.moment seen.closed
   turn_says (busy at flow (response_head side how)) seen answer below = silent (turn_leads server terms (busy at flow (response_head side how)) seen answer below tt).0
   turn_says (busy at flow (response_body side how)) seen answer below = silent (turn_leads server terms (busy at flow (response_body side how)) seen answer below tt).0

@@ -1,5 +1,5 @@
 -- How the sight of a place goes on: with one event more, where its stage passes, and behind a reply.
-use Rattle.std.proofs.Common.{◌≡◌, ℕ, ◌+◌, ◌≤◌, Bool, true, false, List, [], ◌∷◌, ◌++◌, length, drop, Option, Some, None, refl, ap, sym, ◌∙◌, arith, length-append, subst}
+use Rattle.std.proofs.Common.{◌≡◌, ℕ, ◌≤◌, Bool, true, false, List, [], ◌∷◌, ◌++◌, length, drop, Option, Some, None, refl, ap, sym, ◌∙◌, arith, length-append, subst}
 use Rattle.std.specs.Prelude.{if◌then◌else◌, ◌==◌}
 use Rattle.std.proofs.lemmas.List.{drop-append-le}
 use Rattle.px_message.specs.declared.flow.Flow.{Flow}
@@ -27,12 +27,13 @@ use Rattle.px_exchange.specs.Places.{is_same_address, server_for}
 use Rattle.px_exchange.specs.Flows.{response_of, with_answer, with_body, with_end, with_returned, with_start}
 use Rattle.px_exchange.specs.Replies.{taken_at_request_head, taken_at_request_body, taken_at_response_head, taken_at_response_body}
 use Rattle.px_exchange.specs.Requests.{expects, flow_of, judged}
-use Rattle.px_chain.specs.Chain.{IsOnward, behind_flow, dial_leads, finish_by, goes_on_by, is_alone, is_sequence, new_side, opened_by, parked_for, pass, pass_body, sequence, side_behind, side_if, stands, turn, turn_answer, turn_answer_head, turn_body, turn_given_head, turn_head, turn_judged, turn_response, turn_returned, turn_taken_answer, turn_taken_body, turn_taken_given, turn_taken_head, turn_taken_returned, turn_taken_whole, turn_whole_answer, used_more}
-use Rattle.px_chain.specs.Sights.{IsWithin, Sight, Standing, answers_in, bytes_over, dials_at, request_in, server_behind, server_in, server_parked, server_with, shut_behind, shut_over, shut_with, sight_behind, sight_of, sight_over, sight_with}
-use Rattle.px_chain.specs.Stages.{At, Parked, ServerSide, Stage, busy, connection, given_body, given_head, idle, next, over, request_body, response_body, response_head, side_of, side_parked, unparked, upgraded}
+use Rattle.px_chain.specs.Chain.{IsOnward, behind_flow, dial_leads, finish_by, goes_on_by, is_alone, is_sequence, opened_by, parked_for, pass, pass_body, passed, sequence, side_if, sight_past, stands, turn, turn_answer, turn_answer_head, turn_body, turn_given_head, turn_head, turn_judged, turn_response, turn_returned, turn_taken_answer, turn_taken_body, turn_taken_given, turn_taken_head, turn_taken_returned, turn_taken_whole, turn_whole_answer, used_by_pass}
+use Rattle.px_chain.specs.Sights.{IsWithin, Sight, Standing, UsedBytes, answers_in, bytes_over, client_left, dials_at, left_by, request_in, server_behind, server_in, server_left, server_parked, server_used, server_with, shut_behind, shut_over, shut_with, sight_behind, sight_over, sight_with, used_behind}
+use Rattle.px_chain.specs.Stages.{At, Parked, Stage, busy, connection, given_body, given_head, idle, next, over, request_body, response_body, response_head, side_of, side_parked, unparked, upgraded}
 use Rattle.px_event.specs.Sides.{piece_of}
 use Rattle.px_chain.specs.Streams.{bytes_of, client_closed, is_closed}
-use Rattle.px_chain.proofs.FrontLaws.{bytes_more, bytes_shut, closed_more, now_here, now_more, open_behind}
+use Rattle.px_chain.proofs.FrontLaws.{bytes_grow, bytes_more, bytes_shut, closed_more, now_here, now_more, open_behind}
+use Rattle.px_chain.proofs.UsedLaws.{client_drop, client_within, left_drop, request_within, server_drop, server_within}
 
 abbrev make : List ℕ → Bool → List ℕ → Bool → ℕ → Sight
 make client closed server shut now = record { client = client; closed = closed; server = server; shut = shut; now = now }
@@ -49,34 +50,57 @@ side_more : (side : Side) (prefix : List (Timed Event)) (e : Timed Event) (shut 
 side_more side prefix e true open_client is = bytes_shut side prefix e is
 side_more side prefix e false open_client is = bytes_more side prefix e open_client is
 
-server_more : (side : Option ServerSide) (opened : ℕ) (prefix : List (Timed Event)) (e : Timed Event) → opened ≤ length prefix → client_closed prefix ≡ false →
+server_more : (side : Option ℕ) (opened : ℕ) (prefix : List (Timed Event)) (e : Timed Event) → opened ≤ length prefix → client_closed prefix ≡ false →
     bytes_over side opened (prefix ++ e ∷ []) ≡ server_with side (shut_over side opened prefix) (bytes_over side opened prefix) e.value
 server_more None opened prefix e within open_client = refl
 server_more (Some side) opened prefix e within open_client =
     let behind = drop opened prefix in
-    ap (λ l. bytes_of (Server side.server) l) (drop-append-le opened prefix (e ∷ []) within)
-    ∙ side_more (Server side.server) behind e (is_closed (Server side.server) behind) (open_behind opened prefix open_client) refl
+    ap (λ l. bytes_of (Server side) l) (drop-append-le opened prefix (e ∷ []) within)
+    ∙ side_more (Server side) behind e (is_closed (Server side) behind) (open_behind opened prefix open_client) refl
 
-shut_more : (side : Option ServerSide) (opened : ℕ) (prefix : List (Timed Event)) (e : Timed Event) → opened ≤ length prefix → client_closed prefix ≡ false →
+-- behind the bytes that are used the same comes
+used_more : (side : Option ℕ) (shut : Bool) (used : ℕ) (server : List ℕ) (event : Event) → used ≤ length server →
+    drop used (server_with side shut server event) ≡ server_with side shut (drop used server) event
+used_more None shut used server event within = refl
+used_more (Some side) true used server event within = refl
+used_more (Some side) false used server event within = drop-append-le used server (piece_of (Server side) event) within
+
+shut_more : (side : Option ℕ) (opened : ℕ) (prefix : List (Timed Event)) (e : Timed Event) → opened ≤ length prefix → client_closed prefix ≡ false →
     shut_over side opened (prefix ++ e ∷ []) ≡ shut_with side (shut_over side opened prefix) e.value
 shut_more None opened prefix e within open_client = refl
 shut_more (Some side) opened prefix e within open_client =
-    ap (λ l. is_closed (Server side.server) l) (drop-append-le opened prefix (e ∷ []) within)
-    ∙ closed_more (Server side.server) (drop opened prefix) e (open_behind opened prefix open_client)
+    ap (λ l. is_closed (Server side) l) (drop-append-le opened prefix (e ∷ []) within)
+    ∙ closed_more (Server side) (drop opened prefix) e (open_behind opened prefix open_client)
 
 -- The sight with one event more, while the client has not closed.
 pub sight_more : (place : Standing) (prefix : List (Timed Event)) (e : Timed Event) → client_closed prefix ≡ false → IsWithin place prefix →
     sight_over place (prefix ++ e ∷ []) ≡ sight_with (side_of place.stage) (sight_over place prefix) e.value e.moment
 sight_more place prefix e open_client within =
-    make_eq _ _ _ _ _ _ _ _ _ _ (bytes_more Client prefix e open_client open_client) (closed_more Client prefix e open_client)
-    (server_more (side_of place.stage) place.opened prefix e within.opened open_client)
-    (shut_more (side_of place.stage) place.opened prefix e within.opened open_client)
+    let side : Option ℕ = side_of place.stage in
+    make_eq _ _ _ _ _ _ _ _ _ _
+    (ap (λ l. drop place.used.client l) (bytes_more Client prefix e open_client open_client)
+    ∙ drop-append-le place.used.client (bytes_of Client prefix) (piece_of Client e.value) within.client)
+    (closed_more Client prefix e open_client)
+    (ap (λ l. drop place.used.server l) (server_more side place.opened prefix e within.opened open_client)
+    ∙ used_more side (shut_over side place.opened prefix) place.used.server (bytes_over side place.opened prefix) e.value within.server)
+    (shut_more side place.opened prefix e within.opened open_client)
     (now_more place.since prefix e within.since)
+
+server_grows : (side : Option ℕ) (opened : ℕ) (prefix : List (Timed Event)) (e : Timed Event) → opened ≤ length prefix →
+    length (bytes_over side opened prefix) ≤ length (bytes_over side opened (prefix ++ e ∷ []))
+server_grows None opened prefix e within = omega arith
+server_grows (Some side) opened prefix e within =
+    let grows = bytes_grow (Server side) (drop opened prefix) e in
+    let same : length (bytes_of (Server side) (drop opened (prefix ++ e ∷ []))) ≡ length (bytes_of (Server side) (drop opened prefix ++ e ∷ [])) =
+    ap (λ l. length (bytes_of (Server side) l)) (drop-append-le opened prefix (e ∷ []) within) in
+    omega arith
 
 pub within_more : (place : Standing) (prefix : List (Timed Event)) (e : Timed Event) → IsWithin place prefix → IsWithin place (prefix ++ e ∷ [])
 within_more place prefix e within = record {
   since = (let was = within.since in let size = length-append prefix (e ∷ []) in omega arith);
   opened = (let was = within.opened in let size = length-append prefix (e ∷ []) in omega arith);
+  client = (let was = within.client in let grows = bytes_grow Client prefix e in omega arith);
+  server = (let was = within.server in let grows = server_grows (side_of place.stage) place.opened prefix e within.opened in omega arith);
 }
 
 -- ---- where it passes
@@ -92,7 +116,7 @@ body_side at flow (Some response) (bad_body fault head body) now = refl
 -- passing keeps the server's side
 pub side_passed : (stage : Stage) (seen : Sight) → side_of (pass stage seen) ≡ side_of stage
 side_passed (idle at) seen = refl
-side_passed (busy at flow (request_body given)) seen = body_side at flow given (request_in at seen) seen.now
+side_passed (busy at flow (request_body given)) seen = body_side at flow given (request_in seen) seen.now
 side_passed (busy at flow connection) seen = refl
 side_passed (busy at flow (response_head side how)) seen = refl
 side_passed (busy at flow (response_body side how)) seen = refl
@@ -102,97 +126,183 @@ side_passed (busy at flow given_body) seen = refl
 side_passed (next at) seen = refl
 side_passed over seen = refl
 
--- and changes no sight
-pub sight_passed : (place : Standing) (seen : Sight) (prefix : List (Timed Event)) →
-    sight_over (record place { stage = pass place.stage seen }) prefix ≡ sight_over place prefix
-sight_passed place seen prefix = ap (λ side. sight_of side place.since place.opened prefix) (side_passed place.stage seen)
+-- what it uses is what it leaves behind
+past_drop : (stage : Stage) (seen : Sight) (used : UsedBytes) (bytes : List ℕ) → seen.client ≡ drop used.client bytes →
+    drop (used_by_pass stage seen used).client bytes ≡ (sight_past stage seen).client
+past_drop (idle at) seen used bytes is = sym is
+past_drop (busy at flow (request_body None)) seen used bytes is = sym is
+past_drop (busy at flow (request_body (Some response))) seen used bytes is =
+    sym (ap (left_by (request_in seen)) is ∙ left_drop (request_in seen) used.client bytes)
+past_drop (busy at flow connection) seen used bytes is = sym is
+past_drop (busy at flow (response_head side how)) seen used bytes is = sym is
+past_drop (busy at flow (response_body side how)) seen used bytes is = sym is
+past_drop (busy at flow (upgraded side)) seen used bytes is = sym is
+past_drop (busy at flow given_head) seen used bytes is = sym is
+past_drop (busy at flow given_body) seen used bytes is = sym is
+past_drop (next at) seen used bytes is = sym is
+past_drop over seen used bytes is = sym is
 
-pub within_passed : (place : Standing) (seen : Sight) (prefix : List (Timed Event)) → IsWithin place prefix →
-    IsWithin (record place { stage = pass place.stage seen }) prefix
-within_passed place seen prefix within = record { since = within.since; opened = within.opened }
+-- nothing of a server is used so
+past_server : (stage : Stage) (seen : Sight) (used : UsedBytes) → (used_by_pass stage seen used).server ≡ used.server
+past_server (idle at) seen used = refl
+past_server (busy at flow (request_body None)) seen used = refl
+past_server (busy at flow (request_body (Some response))) seen used = refl
+past_server (busy at flow connection) seen used = refl
+past_server (busy at flow (response_head side how)) seen used = refl
+past_server (busy at flow (response_body side how)) seen used = refl
+past_server (busy at flow (upgraded side)) seen used = refl
+past_server (busy at flow given_head) seen used = refl
+past_server (busy at flow given_body) seen used = refl
+past_server (next at) seen used = refl
+past_server over seen used = refl
+
+-- the sight that is left, by the client's bytes
+past_by : (stage : Stage) (seen : Sight) → sight_past stage seen ≡ make (sight_past stage seen).client seen.closed seen.server seen.shut seen.now
+past_by (idle at) seen = refl
+past_by (busy at flow (request_body None)) seen = refl
+past_by (busy at flow (request_body (Some response))) seen = refl
+past_by (busy at flow connection) seen = refl
+past_by (busy at flow (response_head side how)) seen = refl
+past_by (busy at flow (response_body side how)) seen = refl
+past_by (busy at flow (upgraded side)) seen = refl
+past_by (busy at flow given_head) seen = refl
+past_by (busy at flow given_body) seen = refl
+past_by (next at) seen = refl
+past_by over seen = refl
+
+-- Of the sight the bytes are left that it did not use.
+pub sight_passed : (place : Standing) (prefix : List (Timed Event)) →
+    sight_over (passed place (sight_over place prefix)) prefix ≡ sight_past place.stage (sight_over place prefix)
+sight_passed place prefix =
+    let seen : Sight = sight_over place prefix in
+    make_eq _ _ _ _ _ _ _ _ _ _
+    (past_drop place.stage seen place.used (bytes_of Client prefix) refl)
+    refl
+    (ap (λ n. drop n (bytes_over (side_of (pass place.stage seen)) place.opened prefix)) (past_server place.stage seen place.used)
+    ∙ ap (λ s. drop place.used.server (bytes_over s place.opened prefix)) (side_passed place.stage seen))
+    (ap (λ s. shut_over s place.opened prefix) (side_passed place.stage seen))
+    refl
+    ∙ sym (past_by place.stage seen)
+
+past_within : (stage : Stage) (seen : Sight) (used : UsedBytes) (bytes : List ℕ) → seen.client ≡ drop used.client bytes → used.client ≤ length bytes →
+    (used_by_pass stage seen used).client ≤ length bytes
+past_within (idle at) seen used bytes is within = within
+past_within (busy at flow (request_body None)) seen used bytes is within = within
+past_within (busy at flow (request_body (Some response))) seen used bytes is within = request_within seen used.client bytes is within
+past_within (busy at flow connection) seen used bytes is within = within
+past_within (busy at flow (response_head side how)) seen used bytes is within = within
+past_within (busy at flow (response_body side how)) seen used bytes is within = within
+past_within (busy at flow (upgraded side)) seen used bytes is within = within
+past_within (busy at flow given_head) seen used bytes is within = within
+past_within (busy at flow given_body) seen used bytes is within = within
+past_within (next at) seen used bytes is within = within
+past_within over seen used bytes is within = within
+
+pub within_passed : (place : Standing) (prefix : List (Timed Event)) → IsWithin place prefix → IsWithin (passed place (sight_over place prefix)) prefix
+within_passed place prefix within =
+    let seen : Sight = sight_over place prefix in
+    let Holds : ℕ → Option ℕ → Type 0 = (λ n side. n ≤ length (bytes_over side place.opened prefix)) in
+    record {
+      since = within.since;
+      opened = within.opened;
+      client = past_within place.stage seen place.used (bytes_of Client prefix) refl within.client;
+      server = subst (λ n. Holds n (side_of (pass place.stage seen))) (sym (past_server place.stage seen place.used))
+          (subst (λ side. Holds place.used.server side) (sym (side_passed place.stage seen)) within.server);
+    }
 
 -- ---- behind a reply
 
--- The server's side behind a reply, of the stage before: none, a new one where a connection was awaited, or one of the same server.
-pub data IsSideFrom (from : Stage) (side : Option ServerSide) : Type 0 where
+-- The server's side behind a reply, of the stage before: none, a new one where a connection was awaited, or the same.
+pub data IsSideFrom (from : Stage) (side : Option ℕ) : Type 0 where
   no_side : side ≡ None → IsSideFrom from side
-  is_new : (at : At) (flow : Flow) → from ≡ busy at flow connection → side ≡ Some (new_side at.dials) → IsSideFrom from side
-  same_server : (before after : ServerSide) → dials_at from ≡ false → side_of from ≡ Some before → side ≡ Some after → after.server ≡ before.server →
-      IsSideFrom from side
+  is_new : (at : At) (flow : Flow) → from ≡ busy at flow connection → side ≡ Some at.dials → IsSideFrom from side
+  same_server : dials_at from ≡ false → side ≡ side_of from → IsSideFrom from side
 
 drop_all : {A : Type 0} (xs : List A) → drop (length xs) xs ≡ []
 drop_all [] = refl
 drop_all (x ∷ xs) = drop_all xs
 
--- What is heard of the side behind a reply.
-record HeardFrom (dialled : Bool) (before side : Option ServerSide) (opened : ℕ) (prefix : List (Timed Event)) : Type 0 where
-  bytes : bytes_over side (opened_by dialled opened (length prefix)) prefix ≡ server_behind dialled side (bytes_over before opened prefix)
+-- What is heard of the side behind a reply, behind so many bytes of the one before.
+record HeardFrom (dialled : Bool) (before side : Option ℕ) (opened used : ℕ) (prefix : List (Timed Event)) : Type 0 where
+  bytes : drop (used_behind dialled side used) (bytes_over side (opened_by dialled opened (length prefix)) prefix)
+      ≡ server_behind dialled side (drop used (bytes_over before opened prefix))
   shut : shut_over side (opened_by dialled opened (length prefix)) prefix ≡ shut_behind dialled side (shut_over before opened prefix)
+  within : used ≤ length (bytes_over before opened prefix) →
+      used_behind dialled side used ≤ length (bytes_over side (opened_by dialled opened (length prefix)) prefix)
 
-heard_none : (dialled : Bool) (before : Option ServerSide) (opened : ℕ) (prefix : List (Timed Event)) → HeardFrom dialled before None opened prefix
-heard_none true before opened prefix = record { bytes = refl; shut = refl }
-heard_none false before opened prefix = record { bytes = refl; shut = refl }
+heard_none : (dialled : Bool) (before : Option ℕ) (opened used : ℕ) (prefix : List (Timed Event)) → HeardFrom dialled before None opened used prefix
+heard_none true before opened used prefix = record { bytes = refl; shut = refl; within = λ was. omega arith }
+heard_none false before opened used prefix = record { bytes = refl; shut = refl; within = λ was. omega arith }
 
-heard_new : (before : Option ServerSide) (side : ServerSide) (opened : ℕ) (prefix : List (Timed Event)) → HeardFrom true before (Some side) opened prefix
-heard_new before side opened prefix = record {
-  bytes = ap (λ l. bytes_of (Server side.server) l) (drop_all prefix);
-  shut = ap (λ l. is_closed (Server side.server) l) (drop_all prefix);
+heard_new : (before : Option ℕ) (side : ℕ) (opened used : ℕ) (prefix : List (Timed Event)) → HeardFrom true before (Some side) opened used prefix
+heard_new before side opened used prefix = record {
+  bytes = ap (λ l. bytes_of (Server side) l) (drop_all prefix);
+  shut = ap (λ l. is_closed (Server side) l) (drop_all prefix);
+  within = λ was. omega arith;
 }
 
-heard_same : (was side : ServerSide) (opened : ℕ) (prefix : List (Timed Event)) → side.server ≡ was.server → HeardFrom false (Some was) (Some side) opened prefix
-heard_same was side opened prefix same = record {
-  bytes = ap (λ n. bytes_of (Server n) (drop opened prefix)) same;
-  shut = ap (λ n. is_closed (Server n) (drop opened prefix)) same;
-}
+heard_same : (side : Option ℕ) (opened used : ℕ) (prefix : List (Timed Event)) → HeardFrom false side side opened used prefix
+heard_same None opened used prefix = heard_none false None opened used prefix
+heard_same (Some side) opened used prefix = record { bytes = refl; shut = refl; within = λ was. was }
 
-heard_from : (from : Stage) (side : Option ServerSide) (opened : ℕ) (prefix : List (Timed Event)) → IsSideFrom from side → HeardFrom (dials_at from) (side_of from) side opened prefix
-heard_from from side opened prefix (no_side is) = rw is (heard_none (dials_at from) (side_of from) opened prefix)
-heard_from from side opened prefix (is_new at flow is new) = rw (is, new) (heard_new (side_parked at.parked) (new_side at.dials) opened prefix)
-heard_from from side opened prefix (same_server before after none was is same) = rw (none, was, is) (heard_same before after opened prefix same)
+heard_from : (from : Stage) (side : Option ℕ) (opened used : ℕ) (prefix : List (Timed Event)) → IsSideFrom from side →
+    HeardFrom (dials_at from) (side_of from) side opened used prefix
+heard_from from side opened used prefix (no_side is) = rw is (heard_none (dials_at from) (side_of from) opened used prefix)
+heard_from from side opened used prefix (is_new at flow is new) = rw (is, new) (heard_new (side_parked at.parked) at.dials opened used prefix)
+heard_from from side opened used prefix (same_server none is) = rw (none, is) (heard_same (side_of from) opened used prefix)
 
 -- What a stage that was come to by a reply sees over the same prefix.
 pub sight_stood : (place : Standing) (moment : ℕ) (prefix : List (Timed Event)) (stage : Stage) → IsSideFrom place.stage (side_of stage) →
     sight_over (stands place moment prefix stage) prefix ≡ sight_behind place.stage (sight_over place prefix) moment stage
 sight_stood place moment prefix stage how =
-    let heard = heard_from place.stage (side_of stage) place.opened prefix how in
-    make_eq _ _ _ _ _ _ _ _ _ _ refl refl heard.bytes heard.shut (now_here moment prefix)
+    let seen : Sight = sight_over place prefix in
+    let before : List ℕ = bytes_over (side_of place.stage) place.opened prefix in
+    let heard = heard_from place.stage (side_of stage) place.opened (server_used place.stage seen place.used.server) prefix how in
+    make_eq _ _ _ _ _ _ _ _ _ _
+    (sym (client_drop place.stage seen place.used.client (bytes_of Client prefix) refl))
+    refl
+    (heard.bytes ∙ ap (λ l. server_behind (dials_at place.stage) (side_of stage) l) (sym (server_drop place.stage seen place.used.server before refl)))
+    heard.shut
+    (now_here moment prefix)
 
 opened_within : (dialled : Bool) (opened come : ℕ) → opened ≤ come → opened_by dialled opened come ≤ come
 opened_within true opened come within = omega arith
 opened_within false opened come within = within
 
-pub within_stood : (place : Standing) (moment : ℕ) (prefix : List (Timed Event)) (stage : Stage) → IsWithin place prefix → IsWithin (stands place moment prefix stage) prefix
-within_stood place moment prefix stage within = record {
-  since = omega arith;
-  opened = opened_within (dials_at place.stage) place.opened (length prefix) within.opened;
-}
+pub within_stood : (place : Standing) (moment : ℕ) (prefix : List (Timed Event)) (stage : Stage) → IsSideFrom place.stage (side_of stage) → IsWithin place prefix →
+    IsWithin (stands place moment prefix stage) prefix
+within_stood place moment prefix stage how within =
+    let seen : Sight = sight_over place prefix in
+    let before : List ℕ = bytes_over (side_of place.stage) place.opened prefix in
+    let heard = heard_from place.stage (side_of stage) place.opened (server_used place.stage seen place.used.server) prefix how in
+    record {
+      since = omega arith;
+      opened = opened_within (dials_at place.stage) place.opened (length prefix) within.opened;
+      client = client_within place.stage seen place.used.client (bytes_of Client prefix) refl within.client;
+      server = heard.within (server_within place.stage seen place.used.server before refl within.server);
+    }
 
 -- the sight behind a reply, by the server's side that is used there
-abbrev pub sight_behind_by : Stage → Sight → ℕ → Option ServerSide → Sight
+abbrev pub sight_behind_by : Stage → Sight → ℕ → Option ℕ → Sight
 sight_behind_by from seen moment side = record {
-  client = seen.client;
+  client = client_left from seen;
   closed = seen.closed;
-  server = server_behind (dials_at from) side seen.server;
+  server = server_behind (dials_at from) side (server_left from seen);
   shut = shut_behind (dials_at from) side seen.shut;
   now = moment;
 }
 
 -- ---- the side behind a reply
 
--- a side of the same server, or none
-data IsKept (before later : Option ServerSide) : Type 0 where
-  kept : (side after : ServerSide) → before ≡ Some side → later ≡ Some after → after.server ≡ side.server → IsKept before later
+-- the same side, or none
+data IsKept (before later : Option ℕ) : Type 0 where
+  kept : later ≡ before → IsKept before later
   left : later ≡ None → IsKept before later
-
--- one that was parked stays so
-kept_as : (before : Option ServerSide) → IsKept before before
-kept_as None = left refl
-kept_as (Some side) = kept side side refl refl refl
 
 taken_head_side : (at : At) (flow : Flow) (expected : Bool) (taken : Taken Request) (moment : ℕ) (seen : Sight) →
     IsKept (side_parked at.parked) (side_of (turn_taken_head at flow expected taken moment seen).stage)
-taken_head_side at flow expected (GoesOn request) moment seen = kept_as (side_parked at.parked)
-taken_head_side at flow expected (Responds response) moment seen = kept_as (side_parked at.parked)
+taken_head_side at flow expected (GoesOn request) moment seen = kept refl
+taken_head_side at flow expected (Responds response) moment seen = kept refl
 taken_head_side at flow expected Kills moment seen = left refl
 
 judged_side : (terms : Terms) (at : At) (head : ReadRequest) (made : Judged) (seen : Sight) (answer : Timed Reply) →
@@ -212,9 +322,9 @@ head_side terms at (bad_body fault head body) seen answer = judged_side terms at
 
 -- a request that goes to the parked side uses that
 goes_on_side : (to_it : Bool) (parked : Parked) (place : Place) (at : At) (flow : Flow) → at.parked ≡ Some parked →
-    IsKept (Some parked.side) (side_of (goes_on_by (side_if to_it parked.side) place at flow).stage)
-goes_on_side true parked place at flow is = kept parked.side parked.side refl refl refl
-goes_on_side false parked place at flow is = kept parked.side parked.side refl (ap side_parked is) refl
+    IsKept (Some parked.server) (side_of (goes_on_by (side_if to_it parked.server) place at flow).stage)
+goes_on_side true parked place at flow is = kept refl
+goes_on_side false parked place at flow is = kept (ap side_parked is)
 
 parked_side : (place : Place) (request : Request) (parked : Option Parked) (at : At) (flow : Flow) → at.parked ≡ parked →
     IsKept (side_parked parked) (side_of (goes_on_by (parked_for place request parked) place at flow).stage)
@@ -224,7 +334,7 @@ parked_side place request (Some parked) at flow is = goes_on_side (is_same_addre
 taken_body_side : (place : Place) (at : At) (flow : Flow) (taken : Taken Request) (moment : ℕ) (seen : Sight) →
     IsKept (side_parked at.parked) (side_of (turn_taken_body place at flow taken moment seen).stage)
 taken_body_side place at flow (GoesOn request) moment seen = parked_side place request at.parked at (record flow { request = request }) refl
-taken_body_side place at flow (Responds response) moment seen = kept_as (side_parked at.parked)
+taken_body_side place at flow (Responds response) moment seen = kept refl
 taken_body_side place at flow Kills moment seen = left refl
 
 turned_body_side : (place : Place) (at : At) (flow : Flow) (item : Item ReadRequest) (seen : Sight) (answer : Timed Reply) →
@@ -233,22 +343,22 @@ turned_body_side place at flow missing seen answer = left refl
 turned_body_side place at flow (part head body) seen answer = left refl
 turned_body_side place at flow (complete head body trailers used) seen answer =
     let whole : Flow = with_body flow body.content trailers seen.now in
-    taken_body_side place (used_more at used) whole (taken_at_request_body whole.request answer.value) answer.moment seen
+    taken_body_side place at whole (taken_at_request_body whole.request answer.value) answer.moment seen
 turned_body_side place at flow (bad_head fault) seen answer = left refl
 turned_body_side place at flow (bad_body fault head body) seen answer = left refl
 
-taken_answer_side : (at : At) (flow : Flow) (side : ServerSide) (taken : Taken Response) (moment : ℕ) (used : Used) (closed : Bool) →
+taken_answer_side : (at : At) (flow : Flow) (side : ℕ) (taken : Taken Response) (moment : ℕ) (used : Used) (closed : Bool) →
     IsKept (Some side) (side_of (turn_taken_answer at flow side taken moment used closed).stage)
-taken_answer_side at flow side (GoesOn response) moment used closed = kept side side refl refl refl
+taken_answer_side at flow side (GoesOn response) moment used closed = kept refl
 taken_answer_side at flow side (Responds response) moment used closed = left refl
 taken_answer_side at flow side Kills moment used closed = left refl
 
-answer_head_side : (at : At) (flow : Flow) (side : ServerSide) (head : ReadResponse) (seen : Sight) (answer : Timed Reply) →
+answer_head_side : (at : At) (flow : Flow) (side : ℕ) (head : ReadResponse) (seen : Sight) (answer : Timed Reply) →
     IsKept (Some side) (side_of (turn_answer_head at flow side head seen answer).stage)
 answer_head_side at flow side head seen answer =
     taken_answer_side at (with_answer flow (response_of head) seen.now) side (taken_at_response_head (response_of head) answer.value) answer.moment (server_in side seen) seen.closed
 
-answer_side : (at : At) (flow : Flow) (side : ServerSide) (item : Item ReadResponse) (seen : Sight) (answer : Timed Reply) →
+answer_side : (at : At) (flow : Flow) (side : ℕ) (item : Item ReadResponse) (seen : Sight) (answer : Timed Reply) →
     IsKept (Some side) (side_of (turn_answer at flow side item seen answer).stage)
 answer_side at flow side missing seen answer = left refl
 answer_side at flow side (part head body) seen answer = answer_head_side at flow side head seen answer
@@ -257,7 +367,7 @@ answer_side at flow side (bad_head fault) seen answer = left refl
 answer_side at flow side (bad_body fault head body) seen answer = answer_head_side at flow side head seen answer
 
 behind_side : (stays : Bool) (at : At) → IsKept (side_parked at.parked) (side_of (behind_flow stays at))
-behind_side true at = kept_as (side_parked at.parked)
+behind_side true at = kept refl
 behind_side false at = left refl
 
 taken_returned_side : (at : At) (flow : Flow) (taken : Taken Response) (moment : ℕ) (parked : Used) (closed : Bool) →
@@ -266,7 +376,7 @@ taken_returned_side at flow (GoesOn response) moment parked closed = behind_side
 taken_returned_side at flow (Responds response) moment parked closed = left refl
 taken_returned_side at flow Kills moment parked closed = left refl
 
-response_side : (before : Option ServerSide) (there : Option Response) (takes : Response → Taken Response) (goes : Taken Response → Turn Stage Command) →
+response_side : (before : Option ℕ) (there : Option Response) (takes : Response → Taken Response) (goes : Taken Response → Turn Stage Command) →
     ((taken : Taken Response) → IsKept before (side_of (goes taken).stage)) → IsKept before (side_of (turn_response there takes goes).stage)
 response_side before None takes goes each = left refl
 response_side before (Some response) takes goes each = each (takes response)
@@ -283,41 +393,35 @@ none_behind : (stays : Bool) (at : At) → side_of (behind_flow stays (unparked 
 none_behind true at = refl
 none_behind false at = refl
 
-finish_side : (switches : Bool) (at : At) (flow : Flow) (response : Response) (side : ServerSide) (used : Used) (closed : Bool) →
+finish_side : (switches : Bool) (at : At) (flow : Flow) (response : Response) (side : ℕ) (used : Used) (closed : Bool) →
     IsKept (Some side) (side_of (finish_by switches at flow response side used closed).stage)
-finish_side true at flow response side used closed = kept side side refl refl refl
+finish_side true at flow response side used closed = kept refl
 finish_side false at flow response side used closed = left (none_behind (connection_goes_on at.flow flow.request response) at)
 
-taken_whole_side : (at : At) (flow : Flow) (side : ServerSide) (taken : Taken Response) (moment : ℕ) (used : Used) (closed : Bool) →
+taken_whole_side : (at : At) (flow : Flow) (side : ℕ) (taken : Taken Response) (moment : ℕ) (used : Used) (closed : Bool) →
     IsKept (Some side) (side_of (turn_taken_whole at flow side taken moment used closed).stage)
 taken_whole_side at flow side (GoesOn response) moment used closed = finish_side (response.status == 101) at flow response side used closed
 taken_whole_side at flow side (Responds response) moment used closed = left refl
 taken_whole_side at flow side Kills moment used closed = left refl
 
--- reading on keeps the server
-kept_behind : (side : ServerSide) (used : ℕ) (later : Option ServerSide) → IsKept (Some (side_behind side used)) later → IsKept (Some side) later
-kept_behind side used later (kept before after was is same) =
-    let server : side.server ≡ before.server = (let e : Some (side_behind side used) ≡ Some before = was in cc) in kept side after refl is (same ∙ sym server)
-kept_behind side used later (left none) = left none
-
-read_whole_by : (there : Option Response) (at : At) (flow : Flow) (side : ServerSide) (answer : Timed Reply) (used : Used) (closed : Bool) →
+read_whole_by : (there : Option Response) (at : At) (flow : Flow) (side : ℕ) (answer : Timed Reply) (used : Used) (closed : Bool) →
     IsKept (Some side) (side_of (turn_response there (λ response. taken_at_response_body response answer.value) (λ taken. turn_taken_whole at flow side taken answer.moment used closed)).stage)
 read_whole_by None at flow side answer used closed = left refl
 read_whole_by (Some response) at flow side answer used closed = taken_whole_side at flow side (taken_at_response_body response answer.value) answer.moment used closed
 
-returned_side : (at : At) (flow : Flow) (side : ServerSide) (interim : ℕ) (item : Item ReadResponse) (seen : Sight) (answer : Timed Reply) →
-    IsKept (Some side) (side_of (turn_returned at flow side interim item seen answer).stage)
-returned_side at flow side interim missing seen answer = left refl
-returned_side at flow side interim (part head body) seen answer = left refl
-returned_side at flow side interim (complete head body trailers size) seen answer =
+returned_side : (at : At) (flow : Flow) (side : ℕ) (item : Item ReadResponse) (seen : Sight) (answer : Timed Reply) →
+    IsKept (Some side) (side_of (turn_returned at flow side item seen answer).stage)
+returned_side at flow side missing seen answer = left refl
+returned_side at flow side (part head body) seen answer = left refl
+returned_side at flow side (complete head body trailers size) seen answer =
     let whole : Flow = with_returned flow body.content trailers seen.now in
-    kept_behind side (interim + size) _ (read_whole_by whole.response at whole (side_behind side (interim + size)) answer (server_in side seen) seen.closed)
-returned_side at flow side interim (bad_head fault) seen answer = left refl
-returned_side at flow side interim (bad_body fault head body) seen answer = left refl
+    read_whole_by whole.response at whole side answer (server_in side seen) seen.closed
+returned_side at flow side (bad_head fault) seen answer = left refl
+returned_side at flow side (bad_body fault head body) seen answer = left refl
 
 taken_given_side : (at : At) (flow : Flow) (taken : Taken Response) (moment : ℕ) (parked : Used) (closed : Bool) →
     IsKept (side_parked at.parked) (side_of (turn_taken_given at flow taken moment parked closed).stage)
-taken_given_side at flow (GoesOn response) moment parked closed = kept_as (side_parked at.parked)
+taken_given_side at flow (GoesOn response) moment parked closed = kept refl
 taken_given_side at flow (Responds response) moment parked closed = left refl
 taken_given_side at flow Kills moment parked closed = left refl
 
@@ -328,8 +432,8 @@ given_side at flow answer parked closed =
     (λ taken. turn_taken_given at flow taken answer.moment parked closed)
     (λ taken. taken_given_side at flow taken answer.moment parked closed)
 
-kept_from : (from : Stage) (before later : Option ServerSide) → dials_at from ≡ false → side_of from ≡ before → IsKept before later → IsSideFrom from later
-kept_from from before later dials is (kept side after was led same) = same_server side after dials (is ∙ was) led same
+kept_from : (from : Stage) (before later : Option ℕ) → dials_at from ≡ false → side_of from ≡ before → IsKept before later → IsSideFrom from later
+kept_from from before later dials is (kept same) = same_server dials (same ∙ sym is)
 kept_from from before later dials is (left none) = no_side none
 
 dial_side : (place : Place) (at : At) (flow : Flow) (answer : Reply) → IsSideFrom (busy at flow connection) (side_of (dial_leads place at flow answer))
@@ -340,24 +444,24 @@ dial_side place at flow (reply.Respond response) = no_side refl
 dial_side place at flow reply.Kill = no_side refl
 dial_side place at flow reply.Discard = no_side refl
 
--- Where a reply leads, the server's side is none, a new one, or of the server of before.
+-- Where a reply leads, the server's side is none, a new one, or that of before.
 pub side_turned : (terms : Terms) (stage : Stage) (seen : Sight) (answer : Timed Reply) → IsSideFrom stage (side_of (turn terms stage seen answer).stage)
 side_turned terms (idle at) seen answer =
-    kept_from (idle at) (side_parked at.parked) _ refl refl (head_side terms at (request_in at seen) seen answer)
+    kept_from (idle at) (side_parked at.parked) _ refl refl (head_side terms at (request_in seen) seen answer)
 side_turned terms (busy at flow (request_body given)) seen answer =
-    kept_from (busy at flow (request_body given)) (side_parked at.parked) _ refl refl (turned_body_side terms.place at flow (request_in at seen) seen answer)
+    kept_from (busy at flow (request_body given)) (side_parked at.parked) _ refl refl (turned_body_side terms.place at flow (request_in seen) seen answer)
 side_turned terms (busy at flow connection) seen answer = dial_side terms.place at flow answer.value
 side_turned terms (busy at flow (response_head side how)) seen answer =
-    kept_from (busy at flow (response_head side how)) (Some side) _ refl refl (answer_side at flow side (answers_in flow.request side seen).final seen answer)
+    kept_from (busy at flow (response_head side how)) (Some side) _ refl refl (answer_side at flow side (answers_in flow.request seen).final seen answer)
 side_turned terms (busy at flow (response_body side how)) seen answer =
     kept_from (busy at flow (response_body side how)) (Some side) _ refl refl
-    (returned_side at flow side (answers_in flow.request side seen).used (answers_in flow.request side seen).final seen answer)
+    (returned_side at flow side (answers_in flow.request seen).final seen answer)
 side_turned terms (busy at flow (upgraded side)) seen answer = no_side refl
 side_turned terms (busy at flow given_head) seen answer =
     kept_from (busy at flow given_head) (side_parked at.parked) _ refl refl (given_side at (with_start flow seen.now) answer (server_parked at.parked seen) seen.closed)
 side_turned terms (busy at flow given_body) seen answer =
     kept_from (busy at flow given_body) (side_parked at.parked) _ refl refl (whole_side at (with_end flow seen.now) answer (server_parked at.parked seen) seen.closed)
-side_turned terms (next at) seen answer = kept_from (next at) (side_parked at.parked) _ refl refl (kept_as (side_parked at.parked))
+side_turned terms (next at) seen answer = kept_from (next at) (side_parked at.parked) _ refl refl (kept refl)
 side_turned terms over seen answer = no_side refl
 
 sequence_side : (stage : Stage) → side_of (sequence stage) ≡ side_of stage
@@ -381,7 +485,7 @@ pub onward_from : (onward : Stage → Stage) → IsOnward onward → (terms : Te
     IsSideFrom stage (side_of (onward (turn terms stage seen answer).stage))
 onward_from onward goes terms stage seen answer =
     let turned : Stage = (turn terms stage seen answer).stage in
-    let P : Option ServerSide → Type 0 = IsSideFrom stage in
+    let P : Option ℕ → Type 0 = IsSideFrom stage in
     subst P (sym (side_onward onward goes turned)) (side_turned terms stage seen answer)
 
 -- What the stage sees that a reply led to, over the same prefix.

@@ -1,6 +1,6 @@
 -- What a conversation sends goes to servers that are connected: those that were dialled before its stage, of which the side that is open
 -- is one. And before the first move nobody is sent anything.
-use Rattle.std.proofs.Common.{◌≡◌, ℕ, ◌+◌, ◌≤◌, ◌<◌, Bool, true, false, cond, List, [], ◌∷◌, ◌++◌, drop, Option, Some, None, refl, ap, ◌∙◌, arith}
+use Rattle.std.proofs.Common.{◌≡◌, ℕ, ◌+◌, ◌≤◌, ◌<◌, Bool, true, false, cond, List, [], ◌∷◌, ◌++◌, Option, Some, None, refl, ap, ◌∙◌, arith}
 use Rattle.std.specs.Prelude.{⊤, ◌==◌, map}
 use Rattle.std.proofs.lemmas.Bool.{eqb-true}
 use Rattle.px_message.specs.declared.fault.Fault.{Fault}
@@ -39,10 +39,10 @@ use Rattle.px_exchange.specs.Places.{is_same_address, server_for}
 use Rattle.px_exchange.specs.Replies.{taken_at_request_body, taken_at_request_head, taken_at_response_body, taken_at_response_head}
 use Rattle.px_exchange.specs.Requests.{is_head, expects, flow_of, judged}
 use Rattle.px_exchange.specs.Texts.{meets_expectation, interim_command, interim_commands}
-use Rattle.px_chain.specs.Chain.{IsOnward, begin, behind, behind_flow, dial_leads, find, finish, finish_by, goes_on_by, http_chain, is_alone, is_sequence, killed, leaving, look, parked_for, pass, pass_body, sequence, side_behind, side_if, so_far, turn, turn_answer, turn_answer_head, turn_body, turn_head, turn_judged, turn_response, turn_returned, turn_taken_answer, turn_taken_body, turn_taken_given, turn_taken_head, turn_taken_returned, turn_taken_whole, turn_whole_answer, used_more}
+use Rattle.px_chain.specs.Chain.{IsOnward, begin, behind, behind_flow, dial_leads, find, finish, finish_by, goes_on_by, http_chain, is_alone, is_sequence, killed, leaving, look, parked_for, pass, pass_body, passed, sequence, side_if, so_far, turn, turn_answer, turn_answer_head, turn_body, turn_head, turn_judged, turn_response, turn_returned, turn_taken_answer, turn_taken_body, turn_taken_given, turn_taken_head, turn_taken_returned, turn_taken_whole, turn_whole_answer}
 use Rattle.px_chain.specs.Silent.{NoAnswer, ParkedBelow, connects, connections}
 use Rattle.px_chain.specs.Sights.{Sight, Standing, answers_in, request_in, server_in, server_parked, sight_over}
-use Rattle.px_chain.specs.Stages.{At, Parked, ServerSide, Stage, busy, connection, given_body, given_head, idle, next, over, place_of, request_body, response_body, response_head, side_in, side_of, side_parked, unparked, upgraded}
+use Rattle.px_chain.specs.Stages.{At, Parked, Stage, busy, connection, given_body, given_head, idle, next, over, place_of, request_body, response_body, response_head, side_in, side_of, side_parked, unparked, upgraded}
 use Rattle.px_chain.proofs.CountedLemmas.{Counts, CountsServers, IsSilent, counted_from, counted_silent, silent_both}
 use Rattle.px_chain.proofs.SightLaws.{side_onward, side_passed}
 
@@ -51,9 +51,9 @@ abbrev pub dialled : Stage → ℕ
 dialled stage = (place_of stage).dials
 
 -- the side's server is among the first so many
-abbrev pub SideBelow : Option ServerSide → ℕ → Type 0
+abbrev pub SideBelow : Option ℕ → ℕ → Type 0
 SideBelow None dials = ⊤
-SideBelow (Some side) dials = side.server < dials
+SideBelow (Some side) dials = side < dials
 
 -- At the stage the server of the side that is open is among those that were dialled; at the end none is open.
 abbrev pub ServersBelow : Stage → Type 0
@@ -106,14 +106,14 @@ pub parked_below : (parked : Option Parked) (dials : ℕ) → ParkedBelow parked
 parked_below None dials below = tt
 parked_below (Some parked) dials below = below
 
-side_if_below : (to_it : Bool) (side : ServerSide) (dials : ℕ) → side.server < dials → SideBelow (side_if to_it side) dials
+side_if_below : (to_it : Bool) (side : ℕ) (dials : ℕ) → side < dials → SideBelow (side_if to_it side) dials
 side_if_below true side dials below = below
 side_if_below false side dials below = tt
 
 pub for_below : (place : Place) (request : Request) (parked : Option Parked) (dials : ℕ) → SideBelow (side_parked parked) dials →
     SideBelow (parked_for place request parked) dials
 for_below place request None dials below = tt
-for_below place request (Some parked) dials below = side_if_below (is_same_address parked.address (server_for place request)) parked.side dials below
+for_below place request (Some parked) dials below = side_if_below (is_same_address parked.address (server_for place request)) parked.server dials below
 
 module _ (server : ℕ) where
   -- a close has no bytes
@@ -229,13 +229,13 @@ module _ (server : ℕ) where
     returned_silent flow (bad_body fault head body) moment used closed = fault_silent flow fault moment used closed
 
     finds_silent : (stage : Stage) (seen : Sight) → IsSilent server (found (find terms stage seen))
-    finds_silent (idle at) seen = head_silent at.flow (request_in at seen) seen.now (server_parked at.parked seen) seen.closed
-    finds_silent (busy at flow (request_body given)) seen = body_silent flow (request_in at seen) seen.now (server_parked at.parked seen) seen.closed
+    finds_silent (idle at) seen = head_silent at.flow (request_in seen) seen.now (server_parked at.parked seen) seen.closed
+    finds_silent (busy at flow (request_body given)) seen = body_silent flow (request_in seen) seen.now (server_parked at.parked seen) seen.closed
     finds_silent (busy at flow connection) seen = refl
     finds_silent (busy at flow (response_head side how)) seen =
-        answer_silent flow (answers_in flow.request side seen).final seen.now (server_in side seen) seen.closed
+        answer_silent flow (answers_in flow.request seen).final seen.now (server_in side seen) seen.closed
     finds_silent (busy at flow (response_body side how)) seen =
-        returned_silent flow (answers_in flow.request side seen).final seen.now (server_in side seen) seen.closed
+        returned_silent flow (answers_in flow.request seen).final seen.now (server_in side seen) seen.closed
     finds_silent (busy at flow (upgraded side)) seen = refl
     finds_silent (busy at flow given_head) seen = refl
     finds_silent (busy at flow given_body) seen = refl
@@ -318,10 +318,10 @@ module _ (server : ℕ) where
       connected_silent place flow number before =
           let other : (number == server) ≡ false = other_server number before (number == server) refl in rw other refl
 
-      goes_on_leads : (side : Option ServerSide) (place : Place) (at : At) (flow : Flow) → Stays at → at.dials ≤ server → SideBelow side at.dials →
+      goes_on_leads : (side : Option ℕ) (place : Place) (at : At) (flow : Flow) → Stays at → at.dials ≤ server → SideBelow side at.dials →
           Leads was least most (goes_on_by side place at flow)
       goes_on_leads None place at flow stays before below = (refl, stays)
-      goes_on_leads (Some side) place at flow stays before below = (connected_silent place flow side.server (omega arith), (without_it at stays.0, below))
+      goes_on_leads (Some side) place at flow stays before below = (connected_silent place flow side (omega arith), (without_it at stays.0, below))
 
       taken_body_leads : (place : Place) (at : At) (flow : Flow) (taken : Taken Request) (moment : ℕ) (seen : Sight) → Stays at → at.dials ≤ server →
           Leads was least most (turn_taken_body place at flow taken moment seen)
@@ -336,22 +336,22 @@ module _ (server : ℕ) where
       body_leads place at flow (part head body) seen answer stays before = over_leads [] refl
       body_leads place at flow (complete head body trailers used) seen answer stays before =
           let asked_flow : Flow = with_body flow body.content trailers seen.now in
-          taken_body_leads place (used_more at used) asked_flow (taken_at_request_body asked_flow.request answer.value) answer.moment seen stays before
+          taken_body_leads place at asked_flow (taken_at_request_body asked_flow.request answer.value) answer.moment seen stays before
       body_leads place at flow (bad_head fault) seen answer stays before = over_leads [] refl
       body_leads place at flow (bad_body fault head body) seen answer stays before = over_leads [] refl
 
-      taken_answer_leads : (at : At) (flow : Flow) (side : ServerSide) (taken : Taken Response) (moment : ℕ) (used : Used) (closed : Bool) → Few at → side.server < at.dials →
+      taken_answer_leads : (at : At) (flow : Flow) (side : ℕ) (taken : Taken Response) (moment : ℕ) (used : Used) (closed : Bool) → Few at → side < at.dials →
           Leads was least most (turn_taken_answer at flow side taken moment used closed)
       taken_answer_leads at flow side (GoesOn message) moment used closed few below = (refl, (few, below))
       taken_answer_leads at flow side (Responds response) moment used closed few below = killed_leads (without_response flow) moment used closed
       taken_answer_leads at flow side Kills moment used closed few below = killed_leads (without_response flow) moment used closed
 
-      answer_head_leads : (at : At) (flow : Flow) (side : ServerSide) (head : ReadResponse) (seen : Sight) (answer : Timed Reply) → Few at → side.server < at.dials →
+      answer_head_leads : (at : At) (flow : Flow) (side : ℕ) (head : ReadResponse) (seen : Sight) (answer : Timed Reply) → Few at → side < at.dials →
           Leads was least most (turn_answer_head at flow side head seen answer)
       answer_head_leads at flow side head seen answer few below =
           taken_answer_leads at (with_answer flow (response_of head) seen.now) side (taken_at_response_head (response_of head) answer.value) answer.moment (server_in side seen) seen.closed few below
 
-      answer_leads : (at : At) (flow : Flow) (side : ServerSide) (item : Item ReadResponse) (seen : Sight) (answer : Timed Reply) → Few at → side.server < at.dials →
+      answer_leads : (at : At) (flow : Flow) (side : ℕ) (item : Item ReadResponse) (seen : Sight) (answer : Timed Reply) → Few at → side < at.dials →
           Leads was least most (turn_answer at flow side item seen answer)
       answer_leads at flow side missing seen answer few below = over_leads [] refl
       answer_leads at flow side (part head body) seen answer few below = answer_head_leads at flow side head seen answer few below
@@ -385,29 +385,28 @@ module _ (server : ℕ) where
           response_leads flow.response (λ message. taken_at_response_body message answer.value) (λ taken. turn_taken_returned at flow taken answer.moment used closed)
           (λ taken. taken_returned_leads at flow taken answer.moment used closed stays)
 
-      finish_by_leads : (switches : Bool) (at : At) (flow : Flow) (message : Response) (side : ServerSide) (used : Used) (closed : Bool) → Few at → side.server < at.dials →
+      finish_by_leads : (switches : Bool) (at : At) (flow : Flow) (message : Response) (side : ℕ) (used : Used) (closed : Bool) → Few at → side < at.dials →
           Leads was least most (finish_by switches at flow message side used closed)
       finish_by_leads true at flow message side used closed few below = (refl, (few, below))
       finish_by_leads false at flow message side used closed few below = finish_leads (unparked at) flow message used NoServer closed (without_it at few, tt)
 
-      taken_whole_leads : (at : At) (flow : Flow) (side : ServerSide) (taken : Taken Response) (moment : ℕ) (used : Used) (closed : Bool) → Few at → side.server < at.dials →
+      taken_whole_leads : (at : At) (flow : Flow) (side : ℕ) (taken : Taken Response) (moment : ℕ) (used : Used) (closed : Bool) → Few at → side < at.dials →
           Leads was least most (turn_taken_whole at flow side taken moment used closed)
       taken_whole_leads at flow side (GoesOn message) moment used closed few below = finish_by_leads (message.status == 101) at flow message side used closed few below
       taken_whole_leads at flow side (Responds response) moment used closed few below = killed_leads flow moment used closed
       taken_whole_leads at flow side Kills moment used closed few below = killed_leads flow moment used closed
 
-      returned_leads : (at : At) (flow : Flow) (side : ServerSide) (interim : ℕ) (item : Item ReadResponse) (seen : Sight) (answer : Timed Reply) → Few at → side.server < at.dials →
-          Leads was least most (turn_returned at flow side interim item seen answer)
-      returned_leads at flow side interim missing seen answer few below = over_leads [] refl
-      returned_leads at flow side interim (part head body) seen answer few below = over_leads [] refl
-      returned_leads at flow side interim (complete head body trailers size) seen answer few below =
+      returned_leads : (at : At) (flow : Flow) (side : ℕ) (item : Item ReadResponse) (seen : Sight) (answer : Timed Reply) → Few at → side < at.dials →
+          Leads was least most (turn_returned at flow side item seen answer)
+      returned_leads at flow side missing seen answer few below = over_leads [] refl
+      returned_leads at flow side (part head body) seen answer few below = over_leads [] refl
+      returned_leads at flow side (complete head body trailers size) seen answer few below =
           let asked_flow : Flow = with_returned flow body.content trailers seen.now in
-          let behind : ServerSide = side_behind side (interim + size) in
           response_leads asked_flow.response (λ message. taken_at_response_body message answer.value)
-          (λ taken. turn_taken_whole at asked_flow behind taken answer.moment (server_in side seen) seen.closed)
-          (λ taken. taken_whole_leads at asked_flow behind taken answer.moment (server_in side seen) seen.closed few below)
-      returned_leads at flow side interim (bad_head fault) seen answer few below = over_leads [] refl
-      returned_leads at flow side interim (bad_body fault head body) seen answer few below = over_leads [] refl
+          (λ taken. turn_taken_whole at asked_flow side taken answer.moment (server_in side seen) seen.closed)
+          (λ taken. taken_whole_leads at asked_flow side taken answer.moment (server_in side seen) seen.closed few below)
+      returned_leads at flow side (bad_head fault) seen answer few below = over_leads [] refl
+      returned_leads at flow side (bad_body fault head body) seen answer few below = over_leads [] refl
 
       given_leads : (at : At) (flow : Flow) (taken : Taken Response) (moment : ℕ) (parked : Used) (closed : Bool) → Stays at →
           Leads was least most (turn_taken_given at flow taken moment parked closed)
@@ -428,15 +427,15 @@ module _ (server : ℕ) where
     pub turn_leads : (stage : Stage) (seen : Sight) (answer : Timed Reply) → ServersBelow stage → IsBeyond server answer.value stage →
         Leads (parked_at stage) (dialled stage) (dialled stage + connects answer.value) (turn terms stage seen answer)
     turn_leads (idle at) seen answer below before =
-        head_leads at.parked at.dials (at.dials + connects answer.value) at (request_in at seen) seen answer ((omega arith, omega arith, same_parked refl), below)
+        head_leads at.parked at.dials (at.dials + connects answer.value) at (request_in seen) seen answer ((omega arith, omega arith, same_parked refl), below)
     turn_leads (busy at flow (request_body given)) seen answer below before =
-        body_leads at.parked at.dials (at.dials + connects answer.value) terms.place at flow (request_in at seen) seen answer ((omega arith, omega arith, same_parked refl), below) before
+        body_leads at.parked at.dials (at.dials + connects answer.value) terms.place at flow (request_in seen) seen answer ((omega arith, omega arith, same_parked refl), below) before
     turn_leads (busy at flow connection) seen answer below before =
         connected_leads at.parked at.dials (at.dials + connects answer.value) at flow answer.value answer.moment seen.closed before (omega arith) (omega arith)
     turn_leads (busy at flow (response_head side how)) seen answer below before =
-        answer_leads at.parked at.dials (at.dials + connects answer.value) at flow side (answers_in flow.request side seen).final seen answer (omega arith, omega arith, same_parked refl) below
+        answer_leads at.parked at.dials (at.dials + connects answer.value) at flow side (answers_in flow.request seen).final seen answer (omega arith, omega arith, same_parked refl) below
     turn_leads (busy at flow (response_body side how)) seen answer below before =
-        returned_leads at.parked at.dials (at.dials + connects answer.value) at flow side (answers_in flow.request side seen).used (answers_in flow.request side seen).final seen answer
+        returned_leads at.parked at.dials (at.dials + connects answer.value) at flow side (answers_in flow.request seen).final seen answer
         (omega arith, omega arith, same_parked refl) below
     turn_leads (busy at flow (upgraded side)) seen answer below before = over_leads at.parked at.dials (at.dials + connects answer.value) [] refl
     turn_leads (busy at flow given_head) seen answer below before =
@@ -463,7 +462,7 @@ passes_by at flow (Some response) (bad_body fault head body) now = refl
 
 pub passes_same : (stage : Stage) (seen : Sight) → dialled (pass stage seen) ≡ dialled stage
 passes_same (idle at) seen = refl
-passes_same (busy at flow (request_body given)) seen = passes_by at flow given (request_in at seen) seen.now
+passes_same (busy at flow (request_body given)) seen = passes_by at flow given (request_in seen) seen.now
 passes_same (busy at flow connection) seen = refl
 passes_same (busy at flow (response_head side how)) seen = refl
 passes_same (busy at flow (response_body side how)) seen = refl
@@ -511,7 +510,7 @@ abbrev pub dialled_at : Standing → ℕ
 dialled_at place = dialled place.stage
 
 passes_counted : (place : Standing) (seen : Sight) → AreBelow place →
-    Counts dialled_at AreBelow (dialled place.stage) (record { owed = []; stage = record place { stage = pass place.stage seen } })
+    Counts dialled_at AreBelow (dialled place.stage) (record { owed = []; stage = passed place seen })
 passes_counted place seen below = record {
   silent = λ server more. refl;
   few = (let same = passes_same place.stage seen in omega arith);
@@ -561,9 +560,8 @@ silent_from onward goes terms at alone first server moves none =
     (parked_below at.parked at.dials (none_below at alone)) first none
 
 -- Where no move was made nothing is due.
-pub nothing_yet : (onward : Stage → Stage) (terms : Terms) (at : At) → at.used ≡ 0 → due_by (http_chain onward terms) (begin (idle at)) [] ≡ []
-nothing_yet onward terms at none =
+pub nothing_yet : (onward : Stage → Stage) (terms : Terms) (at : At) → due_by (http_chain onward terms) (begin (idle at)) [] ≡ []
+nothing_yet onward terms at =
     let empty : request_item [] ≡ missing = refl in
     let used : Used = server_parked at.parked (sight_over (begin (idle at)) []) in
-    ap (λ n. found (or_leaves false (shut_server used) (look_head terms at.flow (request_item (drop n [])) 0 used false))) none
-    ∙ ap (λ i. found (or_leaves false (shut_server used) (look_head terms at.flow i 0 used false))) empty
+    ap (λ i. found (or_leaves false (shut_server used) (look_head terms at.flow i 0 used false))) empty

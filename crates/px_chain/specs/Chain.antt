@@ -34,8 +34,8 @@ use Rattle.px_exchange.specs.Places.{dialled_for, is_same_address, server_for}
 use Rattle.px_exchange.specs.Replies.{taken_at_request_head, taken_at_request_body, taken_at_response_head, taken_at_response_body}
 use Rattle.px_exchange.specs.Requests.{expects, flow_of, judged}
 use Rattle.px_exchange.specs.Texts.{interim_commands, meets_expectation, returned_text}
-use Rattle.px_chain.specs.Sights.{Sight, Standing, answers_in, dials_at, request_in, server_in, server_parked, sight_over}
-use Rattle.px_chain.specs.Stages.{At, Doing, Parked, ServerSide, Stage, all_sent, busy, connection, given_body, given_head, idle, next, over, request_body, response_body, response_head, unparked, upgraded}
+use Rattle.px_chain.specs.Sights.{Sight, Standing, UsedBytes, answers_in, dials_at, left_by, request_in, server_in, server_parked, sight_over, used_by_turn, used_with}
+use Rattle.px_chain.specs.Stages.{At, Doing, Parked, Stage, all_sent, busy, connection, given_body, given_head, idle, next, over, request_body, response_body, response_head, unparked, upgraded}
 use Rattle.px_chain.specs.Streams.{from_here}
 
 -- ---- idle: a request's head
@@ -72,39 +72,31 @@ turn_head terms at _ seen answer = stops
 
 -- ---- the request's body
 
--- the flow stands behind so many bytes more of the client
-abbrev pub used_more : At → ℕ → At
-used_more at used = record at { used = at.used + used }
-
 -- a request that is whole needs no question where a response is given already
 abbrev pub pass_body : At → Flow → Option Response → Item ReadRequest → ℕ → Stage
 pass_body at flow (Some response) (complete head body trailers used) now =
-    busy (used_more at used) (record (with_body flow body.content trailers now) { response = Some response }) given_head
+    busy at (record (with_body flow body.content trailers now) { response = Some response }) given_head
 pass_body at flow given item now = busy at flow (request_body given)
-
--- the side of a server that is new: no flow has used a byte of it
-abbrev pub new_side : ℕ → ServerSide
-new_side server = record { server = server; used = 0 }
 
 -- the flow, connected to its server
 abbrev pub reached : Place → Flow → Flow
 reached place flow = record flow { server = Some (server_for place flow.request) }
 
 -- the parked side, where this request goes to its address
-abbrev pub side_if : Bool → ServerSide → Option ServerSide
-side_if true side = Some side
-side_if false side = None
+abbrev pub side_if : Bool → ℕ → Option ℕ
+side_if true server = Some server
+side_if false server = None
 
-abbrev pub parked_for : Place → Request → Option Parked → Option ServerSide
+abbrev pub parked_for : Place → Request → Option Parked → Option ℕ
 parked_for place request None = None
-parked_for place request (Some parked) = side_if (is_same_address parked.address (server_for place request)) parked.side
+parked_for place request (Some parked) = side_if (is_same_address parked.address (server_for place request)) parked.server
 
 -- A request that goes on goes to the parked side, or its server is dialled.
-abbrev pub goes_on_by : Option ServerSide → Place → At → Flow → Turn Stage Command
+abbrev pub goes_on_by : Option ℕ → Place → At → Flow → Turn Stage Command
 goes_on_by None place at flow = record { owed = []; stage = busy at flow connection }
-goes_on_by (Some side) place at flow = record {
-  owed = connected_owes place flow side.server;
-  stage = busy (unparked at) (reached place flow) (response_head side all_sent);
+goes_on_by (Some server) place at flow = record {
+  owed = connected_owes place flow server;
+  stage = busy (unparked at) (reached place flow) (response_head server all_sent);
 }
 
 abbrev pub turn_taken_body : Place → At → Flow → Taken Request → ℕ → Sight → Turn Stage Command
@@ -121,14 +113,14 @@ turn_whole place at flow seen answer =
 
 abbrev pub turn_body : Place → At → Flow → Item ReadRequest → Sight → Timed Reply → Turn Stage Command
 turn_body place at flow (complete head body trailers used) seen answer =
-    turn_whole place (used_more at used) (with_body flow body.content trailers seen.now) seen answer
+    turn_whole place at (with_body flow body.content trailers seen.now) seen answer
 turn_body place at flow _ seen answer = stops
 
 -- ---- the connection to its server
 
 abbrev pub dial_leads : Place → At → Flow → Reply → Stage
 dial_leads place at flow reply.Dialled =
-    busy (record at { dials = at.dials + 1; parked = None }) (reached place flow) (response_head (new_side at.dials) all_sent)
+    busy (record at { dials = at.dials + 1; parked = None }) (reached place flow) (response_head at.dials all_sent)
 dial_leads place at flow _ = over
 
 abbrev pub turn_dial : Place → At → Flow → Timed Reply → Bool → Turn Stage Command
@@ -137,21 +129,21 @@ turn_dial place at flow answer closed =
 
 -- ---- the head of the final response
 
-abbrev pub turn_taken_answer : At → Flow → ServerSide → Taken Response → ℕ → Used → Bool → Turn Stage Command
-turn_taken_answer at flow side (GoesOn response) moment used closed =
-    record { owed = []; stage = busy at (record flow { response = Some response }) (response_body side all_sent) }
-turn_taken_answer at flow side _ moment used closed = killed (without_response flow) moment used closed
+abbrev pub turn_taken_answer : At → Flow → ℕ → Taken Response → ℕ → Used → Bool → Turn Stage Command
+turn_taken_answer at flow server (GoesOn response) moment used closed =
+    record { owed = []; stage = busy at (record flow { response = Some response }) (response_body server all_sent) }
+turn_taken_answer at flow server _ moment used closed = killed (without_response flow) moment used closed
 
-abbrev pub turn_answer_head : At → Flow → ServerSide → ReadResponse → Sight → Timed Reply → Turn Stage Command
-turn_answer_head at flow side head seen answer =
-    turn_taken_answer at (with_answer flow (response_of head) seen.now) side
-    (taken_at_response_head (response_of head) answer.value) answer.moment (server_in side seen) seen.closed
+abbrev pub turn_answer_head : At → Flow → ℕ → ReadResponse → Sight → Timed Reply → Turn Stage Command
+turn_answer_head at flow server head seen answer =
+    turn_taken_answer at (with_answer flow (response_of head) seen.now) server
+    (taken_at_response_head (response_of head) answer.value) answer.moment (server_in server seen) seen.closed
 
-abbrev pub turn_answer : At → Flow → ServerSide → Item ReadResponse → Sight → Timed Reply → Turn Stage Command
-turn_answer at flow side (part head body) seen answer = turn_answer_head at flow side head seen answer
-turn_answer at flow side (complete head body trailers size) seen answer = turn_answer_head at flow side head seen answer
-turn_answer at flow side (bad_body fault head body) seen answer = turn_answer_head at flow side head seen answer
-turn_answer at flow side _ seen answer = stops
+abbrev pub turn_answer : At → Flow → ℕ → Item ReadResponse → Sight → Timed Reply → Turn Stage Command
+turn_answer at flow server (part head body) seen answer = turn_answer_head at flow server head seen answer
+turn_answer at flow server (complete head body trailers size) seen answer = turn_answer_head at flow server head seen answer
+turn_answer at flow server (bad_body fault head body) seen answer = turn_answer_head at flow server head seen answer
+turn_answer at flow server _ seen answer = stops
 
 -- ---- the response's body
 
@@ -181,34 +173,30 @@ turn_whole_answer at flow answer parked closed = turn_response flow.response
     (λ taken. turn_taken_returned at flow taken answer.moment parked closed)
 
 -- A response of code 101 is sent, and ends HTTP: what follows on both sides is of another protocol (RFC 9110 section 15.2.2).
-abbrev pub upgrade : At → Flow → Response → ServerSide → Turn Stage Command
-upgrade at flow response side = record {
+abbrev pub upgrade : At → Flow → Response → ℕ → Turn Stage Command
+upgrade at flow response server = record {
   owed = commands.Send Client (returned_text flow.request response) ∷ [];
-  stage = busy at (record flow { response = Some response }) (upgraded side);
+  stage = busy at (record flow { response = Some response }) (upgraded server);
 }
 
-abbrev pub finish_by : Bool → At → Flow → Response → ServerSide → Used → Bool → Turn Stage Command
-finish_by true at flow response side used closed = upgrade at flow response side
-finish_by false at flow response side used closed = finish (unparked at) flow response used NoServer closed
+abbrev pub finish_by : Bool → At → Flow → Response → ℕ → Used → Bool → Turn Stage Command
+finish_by true at flow response server used closed = upgrade at flow response server
+finish_by false at flow response server used closed = finish (unparked at) flow response used NoServer closed
 
-abbrev pub turn_taken_whole : At → Flow → ServerSide → Taken Response → ℕ → Used → Bool → Turn Stage Command
-turn_taken_whole at flow side (GoesOn response) moment used closed =
-    finish_by (response.status == 101) at flow response side used closed
-turn_taken_whole at flow side _ moment used closed = killed flow moment used closed
+abbrev pub turn_taken_whole : At → Flow → ℕ → Taken Response → ℕ → Used → Bool → Turn Stage Command
+turn_taken_whole at flow server (GoesOn response) moment used closed =
+    finish_by (response.status == 101) at flow response server used closed
+turn_taken_whole at flow server _ moment used closed = killed flow moment used closed
 
--- the side behind so many bytes more
-abbrev pub side_behind : ServerSide → ℕ → ServerSide
-side_behind side used = record side { used = side.used + used }
-
-abbrev pub turn_read_whole : At → Flow → ServerSide → Timed Reply → Used → Bool → Turn Stage Command
-turn_read_whole at flow side answer used closed = turn_response flow.response
+abbrev pub turn_read_whole : At → Flow → ℕ → Timed Reply → Used → Bool → Turn Stage Command
+turn_read_whole at flow server answer used closed = turn_response flow.response
     (λ response. taken_at_response_body response answer.value)
-    (λ taken. turn_taken_whole at flow side taken answer.moment used closed)
+    (λ taken. turn_taken_whole at flow server taken answer.moment used closed)
 
-abbrev pub turn_returned : At → Flow → ServerSide → ℕ → Item ReadResponse → Sight → Timed Reply → Turn Stage Command
-turn_returned at flow side interim (complete head body trailers size) seen answer =
-    turn_read_whole at (with_returned flow body.content trailers seen.now) (side_behind side (interim + size)) answer (server_in side seen) seen.closed
-turn_returned at flow side interim _ seen answer = stops
+abbrev pub turn_returned : At → Flow → ℕ → Item ReadResponse → Sight → Timed Reply → Turn Stage Command
+turn_returned at flow server (complete head body trailers size) seen answer =
+    turn_read_whole at (with_returned flow body.content trailers seen.now) server answer (server_in server seen) seen.closed
+turn_returned at flow server _ seen answer = stops
 
 -- ---- a response that was given in place of the server's
 
@@ -225,28 +213,38 @@ turn_given_head at flow answer parked closed = turn_response flow.response
 -- ---- what a stage goes on to without a reply
 
 abbrev pub passes : At → Flow → Doing → Sight → Stage
-passes at flow (request_body given) seen = pass_body at flow given (request_in at seen) seen.now
+passes at flow (request_body given) seen = pass_body at flow given (request_in seen) seen.now
 passes at flow doing seen = busy at flow doing
 
 abbrev pub pass : Stage → Sight → Stage
 pass (busy at flow doing) seen = passes at flow doing seen
 pass stage seen = stage
 
+-- what is used by that: the bytes of a whole request whose response is given
+abbrev pub used_by_pass : Stage → Sight → UsedBytes → UsedBytes
+used_by_pass (busy at flow (request_body (Some response))) seen used = record used { client = used_with (request_in seen) used.client }
+used_by_pass stage seen used = used
+
+-- and what is left of the sight then
+abbrev pub sight_past : Stage → Sight → Sight
+sight_past (busy at flow (request_body (Some response))) seen = record seen { client = left_by (request_in seen) seen.client }
+sight_past stage seen = seen
+
 -- ---- what it finds, but for the client's close
 
 abbrev pub finds : Place → At → Flow → Doing → Sight → Look Command
-finds place at flow (request_body given) seen = look_body flow (request_in at seen) seen.now (server_parked at.parked seen) seen.closed
+finds place at flow (request_body given) seen = look_body flow (request_in seen) seen.now (server_parked at.parked seen) seen.closed
 finds place at flow connection seen = Asks (commands.Dial at.dials (dialled_for place flow.request) None)
-finds place at flow (response_head side sent) seen =
-    look_answer flow (answers_in flow.request side seen).final seen.now (server_in side seen) seen.closed
-finds place at flow (response_body side sent) seen =
-    look_returned flow (answers_in flow.request side seen).final seen.now (server_in side seen) seen.closed
-finds place at flow (upgraded side) seen = Ends []
+finds place at flow (response_head server sent) seen =
+    look_answer flow (answers_in flow.request seen).final seen.now (server_in server seen) seen.closed
+finds place at flow (response_body server sent) seen =
+    look_returned flow (answers_in flow.request seen).final seen.now (server_in server seen) seen.closed
+finds place at flow (upgraded server) seen = Ends []
 finds place at flow given_head seen = Asks (ask_of (with_start flow seen.now) ResponseHead)
 finds place at flow given_body seen = Asks (ask_of (with_end flow seen.now) ResponseBody)
 
 abbrev pub find : Terms → Stage → Sight → Look Command
-find terms (idle at) seen = look_head terms at.flow (request_in at seen) seen.now (server_parked at.parked seen) seen.closed
+find terms (idle at) seen = look_head terms at.flow (request_in seen) seen.now (server_parked at.parked seen) seen.closed
 find terms (busy at flow doing) seen = finds terms.place at flow doing seen
 find terms _ seen = Ends []
 
@@ -254,8 +252,8 @@ find terms _ seen = Ends []
 
 abbrev pub leaves : At → Flow → Doing → Sight → List Command
 leaves at flow (request_body given) seen = ends_early flow closed_message seen.now (server_parked at.parked seen) true
-leaves at flow (response_head side sent) seen = ends_early flow closed_message seen.now (server_in side seen) true
-leaves at flow (response_body side sent) seen = ends_early (without_response flow) closed_message seen.now (server_in side seen) true
+leaves at flow (response_head server sent) seen = ends_early flow closed_message seen.now (server_in server seen) true
+leaves at flow (response_body server sent) seen = ends_early (without_response flow) closed_message seen.now (server_in server seen) true
 leaves at flow _ seen = []
 
 abbrev pub leaving : Stage → Sight → List Command
@@ -269,7 +267,7 @@ look terms stage seen = or_leaves seen.closed (leaving stage seen) (find terms s
 -- ---- what it owes while it waits: the interim responses that have come
 
 abbrev pub waits : Flow → Doing → Sight → List Command
-waits flow (response_head side sent) seen = interim_commands flow.request (answers_in flow.request side seen).interim
+waits flow (response_head server sent) seen = interim_commands flow.request (answers_in flow.request seen).interim
 waits flow _ seen = []
 
 abbrev pub so_far : Stage → Sight → List Command
@@ -289,17 +287,16 @@ behind _ seen = []
 -- ---- what a reply brings
 
 abbrev pub turns : Place → At → Flow → Doing → Sight → Timed Reply → Turn Stage Command
-turns place at flow (request_body given) seen answer = turn_body place at flow (request_in at seen) seen answer
+turns place at flow (request_body given) seen answer = turn_body place at flow (request_in seen) seen answer
 turns place at flow connection seen answer = turn_dial place at flow answer seen.closed
-turns place at flow (response_head side sent) seen answer = turn_answer at flow side (answers_in flow.request side seen).final seen answer
-turns place at flow (response_body side sent) seen answer =
-    let answers = answers_in flow.request side seen in turn_returned at flow side answers.used answers.final seen answer
-turns place at flow (upgraded side) seen answer = stops
+turns place at flow (response_head server sent) seen answer = turn_answer at flow server (answers_in flow.request seen).final seen answer
+turns place at flow (response_body server sent) seen answer = turn_returned at flow server (answers_in flow.request seen).final seen answer
+turns place at flow (upgraded server) seen answer = stops
 turns place at flow given_head seen answer = turn_given_head at (with_start flow seen.now) answer (server_parked at.parked seen) seen.closed
 turns place at flow given_body seen answer = turn_whole_answer at (with_end flow seen.now) answer (server_parked at.parked seen) seen.closed
 
 abbrev pub turn : Terms → Stage → Sight → Timed Reply → Turn Stage Command
-turn terms (idle at) seen answer = turn_head terms at (request_in at seen) seen answer
+turn terms (idle at) seen answer = turn_head terms at (request_in seen) seen answer
 turn terms (busy at flow doing) seen answer = turns terms.place at flow doing seen answer
 turn terms stage seen answer = record { owed = []; stage = stage }
 
@@ -330,12 +327,12 @@ connect_in place _ = None
 
 -- the side that is connected before a conversation begins, in a place that has one
 abbrev pub parked_of : Place → Option Parked
-parked_of (places.Fixed address (Some server) inside) = Some (record { side = new_side server; address = address })
+parked_of (places.Fixed address (Some server) inside) = Some (record { server = server; address = address })
 parked_of place = None
 
 -- where a conversation stands at first
 abbrev pub begin : Stage → Standing
-begin stage = record { stage = stage; since = record { events = 0; moment = 0 }; opened = 0 }
+begin stage = record { stage = stage; since = record { events = 0; moment = 0 }; opened = 0; used = record { client = 0; server = 0 } }
 
 -- how many events had come when the dial of its server was answered: they are counted where a connection is awaited
 abbrev pub opened_by : Bool → ℕ → ℕ → ℕ
@@ -348,12 +345,17 @@ stands from moment prefix stage = record {
   stage = stage;
   since = from_here moment prefix;
   opened = opened_by (dials_at from.stage) from.opened (length prefix);
+  used = used_by_turn from.stage (sight_over from prefix) from.used stage;
 }
+
+-- A stage that went on without a reply in this sight stands since before, behind what it used.
+abbrev pub passed : Standing → Sight → Standing
+passed place seen = record place { stage = pass place.stage seen; used = used_by_pass place.stage seen place.used }
 
 -- the chain of one flow, or of flows in sequence
 abbrev pub http_chain : (Stage → Stage) → Terms → Chain Standing Event Reply Command
 http_chain onward terms = record {
-  pass = λ place prefix. record { owed = []; stage = record place { stage = pass place.stage (sight_over place prefix) } };
+  pass = λ place prefix. record { owed = []; stage = passed place (sight_over place prefix) };
   look = λ place prefix. look terms place.stage (sight_over place prefix);
   so_far = λ place prefix. so_far place.stage (sight_over place prefix);
   behind = λ place prefix. behind place.stage (sight_over place prefix);

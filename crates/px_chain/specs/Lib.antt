@@ -1,10 +1,7 @@
 pub mod Chain
-pub mod ClosedForm
 pub mod Left
 pub mod Sent
 pub mod Sights
 pub mod Silent
 pub mod Stages
 pub mod Streams
-pub mod Walks
-pub mod WhatWasRead

@@ -11,7 +11,7 @@ use Rattle.px_chain.specs.Stages.{Parked}
 pub record GoesToParked (place : Place) (parked : Option Parked) (server : ℕ) (request : Request) : Type 0 where
   pub side : Parked
   pub there : parked ≡ Some side
-  pub number : side.side.server ≡ server
+  pub number : side.server ≡ server
   pub address : is_same_address side.address (server_for place request) ≡ true
 
 -- The bytes are the text of a request, in a conversation that begins with this parked side and so many servers.

@@ -1,93 +1,132 @@
--- What a stage looks at, and nothing else: the joined bytes of the client and of the one server's side that is open, whether each
--- closed, and the moment.
-use Rattle.std.specs.Prelude.{ℕ, ◌≤◌, Bool, true, false, ◌||◌, if◌then◌else◌, List, [], ◌++◌, length, drop, Option, Some, None}
+-- What a stage looks at, and nothing else: the joined bytes of the client and of the one server's side that is open, behind those that
+-- flows before have used, whether each closed, and the moment.
+use Rattle.std.specs.Prelude.{ℕ, ◌≤◌, ◌+◌, Bool, true, false, ◌||◌, if◌then◌else◌, List, [], ◌++◌, length, drop, Option, Some, None}
 use Rattle.px_message.specs.declared.request.Request.{Request}
 use Rattle.px_event.specs.declared.event.Event.{Event}
 use Rattle.px_event.specs.declared.side.Side.TheVariants.{Client, Server}
 use Rattle.px_event.specs.Chain.{Timed}
-use Rattle.px_read.specs.Items.{Item, request_item, Answers, answer_list}
+use Rattle.px_read.specs.Items.{Item, complete, request_item, Answers, answer_list}
 use Rattle.px_read.specs.declared.head.RequestHead.{RequestHead}
 use Rattle.px_exchange.specs.declared.ending.Used.{Used}
 use Rattle.px_exchange.specs.declared.ending.Used.TheVariants.{NoServer, ByServer}
 use Rattle.px_exchange.specs.Requests.{is_head}
-use Rattle.px_chain.specs.Stages.{At, Doing, Parked, ServerSide, Stage, busy, connection, side_of}
+use Rattle.px_chain.specs.Stages.{Doing, Parked, Stage, busy, connection, request_body, response_body, side_of}
 use Rattle.px_event.specs.Sides.{closes, piece_of}
 use Rattle.px_chain.specs.Streams.{Since, bytes_of, client_closed, is_closed, now_over}
 
 pub record Sight : Type 0 where
-  -- the client's bytes, those of flows before included
+  -- the client's bytes behind those that flows before have used
   pub client : List ℕ
   pub closed : Bool
-  -- of the server's side, the flow's own or one that is parked
+  -- of the server's side, the flow's own or one that is parked, likewise
   pub server : List ℕ
   pub shut : Bool
   pub now : ℕ
 
 -- ---- what is read of it
 
--- the client's request behind the bytes that earlier flows used
-abbrev pub request_in : At → Sight → Item RequestHead
-request_in at seen = request_item (drop at.used seen.client)
+-- the client's request
+abbrev pub request_in : Sight → Item RequestHead
+request_in seen = request_item seen.client
 
--- the responses of a server's side, to this request
-abbrev pub answers_in : Request → ServerSide → Sight → Answers
-answers_in request side seen = answer_list (is_head request.method) seen.shut (drop side.used seen.server)
+-- the responses of the server's side, to this request
+abbrev pub answers_in : Request → Sight → Answers
+answers_in request seen = answer_list (is_head request.method) seen.shut seen.server
 
--- the server of a side
-abbrev pub server_in : ServerSide → Sight → Used
-server_in side seen = ByServer side.server seen.shut
+-- the server of this number, whose side is open
+abbrev pub server_in : ℕ → Sight → Used
+server_in server seen = ByServer server seen.shut
 
 -- the server that is parked
 abbrev pub server_parked : Option Parked → Sight → Used
 server_parked None seen = NoServer
-server_parked (Some parked) seen = server_in parked.side seen
+server_parked (Some parked) seen = server_in parked.server seen
+
+-- ---- what is used of it
+
+-- how many bytes of the client, and of the one server's side that is open
+pub record UsedBytes : Type 0 where
+  pub client : ℕ
+  pub server : ℕ
+
+-- a complete item uses its bytes: so many more are used, and what stands behind them is left
+abbrev pub used_with : {H : Type 0} → Item H → ℕ → ℕ
+used_with (complete head body trailers size) used = used + size
+used_with _ used = used
+
+abbrev pub left_by : {H : Type 0} → Item H → List ℕ → List ℕ
+left_by (complete head body trailers size) bytes = drop size bytes
+left_by _ bytes = bytes
+
+-- how many of the client's bytes are used where a stage goes on in this sight: those of a whole request
+abbrev pub client_used : Stage → Sight → ℕ → ℕ
+client_used (busy at flow (request_body given)) seen used = used_with (request_in seen) used
+client_used _ seen used = used
+
+abbrev pub client_left : Stage → Sight → List ℕ
+client_left (busy at flow (request_body given)) seen = left_by (request_in seen) seen.client
+client_left _ seen = seen.client
+
+-- and of the server's: those of the responses to a request, where the final one is whole
+abbrev pub server_used : Stage → Sight → ℕ → ℕ
+server_used (busy at flow (response_body server sent)) seen used =
+    let answers = answers_in flow.request seen in used_with answers.final (used + answers.used)
+server_used _ seen used = used
+
+abbrev pub server_left : Stage → Sight → List ℕ
+server_left (busy at flow (response_body server sent)) seen =
+    let answers = answers_in flow.request seen in left_by answers.final (drop answers.used seen.server)
+server_left _ seen = seen.server
 
 -- ---- a stage over a prefix
 
--- A stage, since when it stands, and how many events had come when the dial of its server's side was answered: a server is heard in the
--- events behind those.
+-- A stage, since when it stands, how many events had come when the dial of its server's side was answered (a server is heard in the
+-- events behind those), and how many bytes of the client and of that side flows before have used.
 pub record Standing : Type 0 where
   pub stage : Stage
   pub since : Since
   pub opened : ℕ
+  pub used : UsedBytes
 
-abbrev pub bytes_over : Option ServerSide → ℕ → List (Timed Event) → List ℕ
+abbrev pub bytes_over : Option ℕ → ℕ → List (Timed Event) → List ℕ
 bytes_over None opened prefix = []
-bytes_over (Some side) opened prefix = bytes_of (Server side.server) (drop opened prefix)
+bytes_over (Some server) opened prefix = bytes_of (Server server) (drop opened prefix)
 
-abbrev pub shut_over : Option ServerSide → ℕ → List (Timed Event) → Bool
+abbrev pub shut_over : Option ℕ → ℕ → List (Timed Event) → Bool
 shut_over None opened prefix = false
-shut_over (Some side) opened prefix = is_closed (Server side.server) (drop opened prefix)
+shut_over (Some server) opened prefix = is_closed (Server server) (drop opened prefix)
 
-abbrev pub sight_of : Option ServerSide → Since → ℕ → List (Timed Event) → Sight
-sight_of side since opened prefix = record {
-  client = bytes_of Client prefix;
+abbrev pub sight_of : Option ℕ → Since → ℕ → UsedBytes → List (Timed Event) → Sight
+sight_of side since opened used prefix = record {
+  client = drop used.client (bytes_of Client prefix);
   closed = client_closed prefix;
-  server = bytes_over side opened prefix;
+  server = drop used.server (bytes_over side opened prefix);
   shut = shut_over side opened prefix;
   now = now_over since prefix;
 }
 
 abbrev pub sight_over : Standing → List (Timed Event) → Sight
-sight_over place prefix = sight_of (side_of place.stage) place.since place.opened prefix
+sight_over place prefix = sight_of (side_of place.stage) place.since place.opened place.used prefix
 
--- it stands since an event of the prefix, and so does its server's side
+-- it stands since an event of the prefix, and so does its server's side; and what was used of both had come
 pub record IsWithin (place : Standing) (prefix : List (Timed Event)) : Type 0 where
   pub since : place.since.events ≤ length prefix
   pub opened : place.opened ≤ length prefix
+  pub client : place.used.client ≤ length (bytes_of Client prefix)
+  pub server : place.used.server ≤ length (bytes_over (side_of place.stage) place.opened prefix)
 
 -- ---- one event more
 
-abbrev pub server_with : Option ServerSide → Bool → List ℕ → Event → List ℕ
+abbrev pub server_with : Option ℕ → Bool → List ℕ → Event → List ℕ
 server_with None shut server event = server
-server_with (Some side) shut server event = if shut then server else (server ++ piece_of (Server side.server) event)
+server_with (Some side) shut server event = if shut then server else (server ++ piece_of (Server side) event)
 
-abbrev pub shut_with : Option ServerSide → Bool → Event → Bool
+abbrev pub shut_with : Option ℕ → Bool → Event → Bool
 shut_with None shut event = shut
-shut_with (Some side) shut event = shut || closes (Server side.server) event
+shut_with (Some side) shut event = shut || closes (Server side) event
 
 -- the sight with one event more, at this moment, while the client has not closed
-abbrev pub sight_with : Option ServerSide → Sight → Event → ℕ → Sight
+abbrev pub sight_with : Option ℕ → Sight → Event → ℕ → Sight
 sight_with side seen event now = record {
   client = seen.client ++ piece_of Client event;
   closed = seen.closed || closes Client event;
@@ -107,23 +146,36 @@ abbrev pub dials_at : Stage → Bool
 dials_at (busy at flow doing) = is_dialling doing
 dials_at _ = false
 
--- What is seen of the server's side where a reply led: of a new one nothing, and else what was seen of it.
-abbrev pub server_behind : Bool → Option ServerSide → List ℕ → List ℕ
+-- What is seen of the server's side where a reply led: of a new one nothing, and else what was left of it.
+abbrev pub server_behind : Bool → Option ℕ → List ℕ → List ℕ
 server_behind true side server = []
 server_behind false None server = []
 server_behind false (Some side) server = server
 
-abbrev pub shut_behind : Bool → Option ServerSide → Bool → Bool
+abbrev pub shut_behind : Bool → Option ℕ → Bool → Bool
 shut_behind true side shut = false
 shut_behind false None shut = false
 shut_behind false (Some side) shut = shut
 
+-- how many of its bytes were used there: of a new one none
+abbrev pub used_behind : Bool → Option ℕ → ℕ → ℕ
+used_behind true side used = 0
+used_behind false None used = 0
+used_behind false (Some side) used = used
+
+-- the bytes that are used where a reply led from the one stage to the other in this sight
+abbrev pub used_by_turn : Stage → Sight → UsedBytes → Stage → UsedBytes
+used_by_turn from seen used to = record {
+  client = client_used from seen used.client;
+  server = used_behind (dials_at from) (side_of to) (server_used from seen used.server);
+}
+
 -- the sight behind a reply at this moment, which led from the one stage to the other
 abbrev pub sight_behind : Stage → Sight → ℕ → Stage → Sight
 sight_behind from seen moment to = record {
-  client = seen.client;
+  client = client_left from seen;
   closed = seen.closed;
-  server = server_behind (dials_at from) (side_of to) seen.server;
+  server = server_behind (dials_at from) (side_of to) (server_left from seen);
   shut = shut_behind (dials_at from) (side_of to) seen.shut;
   now = moment;
 }

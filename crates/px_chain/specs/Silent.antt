@@ -25,4 +25,4 @@ NoAnswer server moves = connections moves ≤ server
 -- the server of a parked side is among the first so many
 abbrev pub ParkedBelow : Option Parked → ℕ → Type 0
 ParkedBelow None dials = ⊤
-ParkedBelow (Some parked) dials = parked.side.server < dials
+ParkedBelow (Some parked) dials = parked.server < dials

@@ -1,17 +1,13 @@
--- The stages of a conversation of HTTP: where its present flow stands. A stage counts no events and keeps no moment.
+-- The stages of a conversation of HTTP: where its present flow stands. A stage counts no events and no bytes, and keeps no
+-- moment.
 use Rattle.std.specs.Prelude.{ℕ, Option, Some, None}
 use Rattle.px_message.specs.declared.address.Address.{Address}
 use Rattle.px_message.specs.declared.flow.Flow.{Flow}
 use Rattle.px_message.specs.declared.response.Response.{Response}
 
--- a server's side: its number, and how many of its bytes were used before
-pub record ServerSide : Type 0 where
-  pub server : ℕ
-  pub used : ℕ
-
--- a side that is connected, to this address, and that no flow uses
+-- a server's side that is connected, to this address, and that no flow uses: its number
 pub record Parked : Type 0 where
-  pub side : ServerSide
+  pub server : ℕ
   pub address : Address
 
 -- where in its conversation a flow stands
@@ -20,8 +16,6 @@ pub record At : Type 0 where
   pub flow : ℕ
   -- how many servers were dialled before
   pub dials : ℕ
-  -- how many of the client's bytes the flows before have used
-  pub used : ℕ
   -- the side that waits for a flow, while none uses one
   pub parked : Option Parked
 
@@ -37,10 +31,10 @@ pub data Doing : Type 0 where
   -- the request is whole and its hook was answered: the connection to its server
   connection : Doing
   -- the server is connected: the head of its final response, and behind that head's hook the response's body
-  response_head : (side : ServerSide) (sent : Sent) → Doing
-  response_body : (side : ServerSide) (sent : Sent) → Doing
+  response_head : (server : ℕ) (sent : Sent) → Doing
+  response_body : (server : ℕ) (sent : Sent) → Doing
   -- the response has code 101 and was sent: HTTP ends here, and the flow does not
-  upgraded : (side : ServerSide) → Doing
+  upgraded : (server : ℕ) → Doing
   -- a response was given in place of the server's, and goes through both hooks
   given_head : Doing
   given_body : Doing
@@ -57,7 +51,7 @@ pub data Stage : Type 0 where
 
 -- where its flow stands; at the end that counts for nothing
 abbrev pub ended_at : At
-ended_at = record { flow = 0; dials = 0; used = 0; parked = None }
+ended_at = record { flow = 0; dials = 0; parked = None }
 
 abbrev pub place_of : Stage → At
 place_of (idle at) = at
@@ -65,19 +59,19 @@ place_of (busy at flow doing) = at
 place_of (next at) = at
 place_of over = ended_at
 
--- ---- the one server's side that is open, if one is: the flow's own, or one that is parked
+-- ---- the one server's side that is open, if one is, by its number: the flow's own, or one that is parked
 
-abbrev pub side_parked : Option Parked → Option ServerSide
+abbrev pub side_parked : Option Parked → Option ℕ
 side_parked None = None
-side_parked (Some parked) = Some parked.side
+side_parked (Some parked) = Some parked.server
 
-abbrev pub side_in : At → Doing → Option ServerSide
-side_in at (response_head side sent) = Some side
-side_in at (response_body side sent) = Some side
-side_in at (upgraded side) = Some side
+abbrev pub side_in : At → Doing → Option ℕ
+side_in at (response_head server sent) = Some server
+side_in at (response_body server sent) = Some server
+side_in at (upgraded server) = Some server
 side_in at _ = side_parked at.parked
 
-abbrev pub side_of : Stage → Option ServerSide
+abbrev pub side_of : Stage → Option ℕ
 side_of (idle at) = side_parked at.parked
 side_of (busy at flow doing) = side_in at doing
 side_of (next at) = side_parked at.parked

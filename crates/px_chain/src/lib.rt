@@ -9,7 +9,7 @@
 //! HTTP ends in two more ways, behind which another protocol follows, and a crate above goes on from there. A CONNECT asks for a tunnel
 //! (RFC 9110 section 9.3.6): `idle` finds it and owes nothing, and `connect_in` says where the tunnel is asked for to, and how many of the
 //! client's bytes that used. A response of code 101 switches protocols (RFC 9110 section 15.2.2): once its last hook was answered it is
-//! sent, and the flow stands at `upgraded`, unfinished, with the server's side and how many of its bytes HTTP used.
+//! sent, and the flow stands at `upgraded`, unfinished, with the number of its server; how many bytes of both sides HTTP used stands beside it.
 //!
 //! At a place whose servers are reached through another proxy the connection that is asked for is the proxy's (`dialled_for`). What that is asked then,
 //! before the reply comes here, is of the crate above too: here the server is connected by its reply, wherever it was dialled.
@@ -18,21 +18,18 @@
 //! side (`parked_of`). The first request, where it goes to its address, is sent to it in the turn that answers its body's hook, and no
 //! connection is asked for; a dial closes it (`behind`).
 //!
-//! A stage looks at the joined bytes of the client and of that side, at their closes and at the moment, and at nothing else: that is its sight (`specs/Sights.antt`). What it finds, where it goes on without a reply, and what a
-//! reply brings are functions of the stage and its sight (`specs/Chain.antt`), in the steps of `px_exchange`. A client that closes ends
-//! the flow where nothing else is found by then.
+//! A stage counts no bytes and no events. It looks at the joined bytes of the client and of that side, behind those that flows before have used, at their closes and at the moment, and at nothing else: that is its sight
+//! (`specs/Sights.antt`). What it finds, where it goes on without a reply, and what a reply brings are functions of the stage and its sight (`specs/Chain.antt`), in the steps of `px_exchange`. How many bytes are used stands beside
+//! the stage in its place of the walk (`Standing`): a whole request uses its own where the stage goes on, and a whole response its own and those of the interim ones before it. A client that closes ends the flow where nothing else
+//! is found by then.
 //!
 //! So over `GET / HTTP/1.1` CRLF `Host: h` CRLF CRLF, `idle` finds a head and asks its hook; a reply that goes on leads to awaiting
 //! the body, which finds the request whole and asks its hook; then the connection is asked for, which owes the server the request's
 //! text and leads to awaiting the response's head, where nothing is found until the server's bytes begin with a final response.
 //!
 //! `laws` says what follows: what is due only grows, in each view; a server hears nothing before its dial was answered, and the text of
-//! one request at most; bytes come before the end of their flow, and that before closes; a CONNECT that ends HTTP stands whole. Where
-//! every reply to a flow goes on with the flow as it was asked, `specs/ClosedForm.antt` says over whole lists, without stages, which texts
-//! are sent and which servers are dialled, in order and with the faults' texts, and the chain does that: from whatever place of a walk the
-//! flow begins (`specs/Walks.antt`), and whatever other flows are answered. Whoever reads those texts reads what was read here before:
-//! `specs/WhatWasRead.antt` says it, with the few things that differ. For crates with larger chains
-//! `proofs/CountedLemmas.antt` says that no server hears anything early of any chain that counts its servers, as this one does.
+//! one request at most; bytes come before the end of their flow, and that before closes; a CONNECT that ends HTTP stands whole. What is due where every reply goes on, without stages, and that it is read as what was
+//! read, is said in `px_said`. For crates with larger chains `proofs/CountedLemmas.antt` says that no server hears anything early of any chain that counts its servers, as this one does.
 #![tactic(auto)]
 
 pub mod laws;

@@ -1,5 +1,5 @@
 -- Places that show the same look alike, and a piece that waits may be taken early: what px_event's laws of walks ask for.
-use Rattle.std.proofs.Common.{◌≡◌, ℕ, false, List, [], ◌∷◌, ◌++◌, map, Option, Some, None, refl, ap, sym, ◌∙◌, subst}
+use Rattle.std.proofs.Common.{◌≡◌, ℕ, false, List, [], ◌∷◌, ◌++◌, map, Some, None, refl, ap, sym, ◌∙◌, subst}
 use Rattle.px_message.specs.declared.flow.Flow.{Flow}
 use Rattle.px_message.specs.declared.response.Response.{Response}
 use Rattle.px_event.specs.declared.command.Command.{Command}
@@ -14,8 +14,8 @@ use Rattle.px_event.specs.Laws.{IsFound, IsSettled}
 use Rattle.px_read.specs.Items.{Item, missing, part, complete, bad_head, bad_body}
 use Rattle.px_read.specs.declared.head.RequestHead.{RequestHead as ReadRequest}
 use Rattle.px_exchange.specs.declared.terms.Terms.{Terms}
-use Rattle.px_chain.specs.Chain.{behind, http_chain, look, pass, pass_body, sequence, so_far, stands, turn, IsOnward, is_alone, is_sequence}
-use Rattle.px_chain.specs.Sights.{Sight, Standing, request_in, sight_behind, sight_over, sight_with}
+use Rattle.px_chain.specs.Chain.{behind, http_chain, look, pass, pass_body, sequence, sight_past, so_far, stands, turn, used_by_pass, IsOnward, is_alone, is_sequence}
+use Rattle.px_chain.specs.Sights.{Sight, Standing, UsedBytes, request_in, sight_behind, sight_over, sight_with, used_with}
 use Rattle.px_chain.specs.Stages.{At, Stage, busy, connection, given_body, given_head, idle, next, over, request_body, response_body, response_head, side_of, upgraded}
 use Rattle.px_chain.specs.Streams.{client_closed, now_over}
 use Rattle.px_chain.proofs.ChainLaws.{open_still}
@@ -24,9 +24,9 @@ use Rattle.px_chain.proofs.SightLaws.{IsSideFrom, onward_from, side_passed, sigh
 use Rattle.px_cuts.specs.Alike.{PlacesAlike, HeardEarly}
 use Rattle.px_cuts.specs.Cuts.{AlikeSeen, IsDialled, MayBeHeard, MayWaitFor, retimed}
 use Rattle.px_cuts.specs.Shown.{hears, look_over, moment_at, passed_over, retimed_stage, shown_over, shown_sight}
-use Rattle.px_cuts.proofs.PlaceLaws.{behind_retimed, hears_behind, may_more, may_passed, may_turned, moment_alike, moment_passed, onward_leads, passed_leads, shown_more, side_retimed}
+use Rattle.px_cuts.proofs.PlaceLaws.{behind_late, behind_retimed, hears_behind, may_more, may_passed, may_turned, moment_alike, moment_passed, onward_leads, passed_leads, passed_shown, shown_more, side_retimed}
 use Rattle.px_cuts.proofs.ShownLaws.{behind_shown, look_shown, pass_shown, retimed_look, retimed_reply, retimed_turn, so_far_shown, turn_shown}
-use Rattle.px_cuts.proofs.StayLaws.{finds_alike, FindsAlike, pass_stays, ReadersStay}
+use Rattle.px_cuts.proofs.StayLaws.{finds_alike, FindsAlike, leaves_more, passes_with, ReadersStay}
 
 -- two changed at once
 both : {A B C : Type 0} (f : A → B → C) (a a' : A) (b b' : B) → a ≡ a' → b ≡ b' → f a b ≡ f a' b'
@@ -34,34 +34,43 @@ both f a a' b b' one two = ap (λ x. f x b) one ∙ ap (λ y. f a' y) two
 
 -- ---- passing
 
--- a stage that passed finds something
-not_passed_by : (terms : Terms) (at : At) (flow : Flow) (given : Option Response) (item : Item ReadRequest) (seen : Sight) →
-    look terms (pass_body at flow given item seen.now) seen ≡ NotYet → pass_body at flow given item seen.now ≡ busy at flow (request_body given)
-not_passed_by terms at flow None item seen is = refl
-not_passed_by terms at flow (Some response) missing seen is = refl
-not_passed_by terms at flow (Some response) (part head body) seen is = refl
-not_passed_by terms at flow (Some response) (complete head body trailers used) seen is =
-    let P : Look Command → Type 0 = IsFound in absurd (subst P is tt)
-not_passed_by terms at flow (Some response) (bad_head fault) seen is = refl
-not_passed_by terms at flow (Some response) (bad_body fault head body) seen is = refl
+-- A stage that does not pass stays, and uses nothing.
+record NotPassed (stage : Stage) (seen : Sight) (used : UsedBytes) : Type 0 where
+  stays : pass stage seen ≡ stage
+  uses_nothing : used_by_pass stage seen used ≡ used
 
-not_passed : (terms : Terms) (stage : Stage) (seen : Sight) → look terms (pass stage seen) seen ≡ NotYet → pass stage seen ≡ stage
-not_passed terms (idle at) seen is = refl
-not_passed terms (busy at flow (request_body given)) seen is = not_passed_by terms at flow given (request_in at seen) seen is
-not_passed terms (busy at flow connection) seen is = refl
-not_passed terms (busy at flow (response_head side how)) seen is = refl
-not_passed terms (busy at flow (response_body side how)) seen is = refl
-not_passed terms (busy at flow (upgraded side)) seen is = refl
-not_passed terms (busy at flow given_head) seen is = refl
-not_passed terms (busy at flow given_body) seen is = refl
-not_passed terms (next at) seen is = refl
-not_passed terms over seen is = refl
+-- a stage that passed finds something
+not_passed_by : (terms : Terms) (at : At) (flow : Flow) (response : Response) (item : Item ReadRequest) (seen : Sight) (used : UsedBytes) → request_in seen ≡ item →
+    look terms (pass_body at flow (Some response) item seen.now) (sight_past (busy at flow (request_body (Some response))) seen) ≡ NotYet →
+    (pass_body at flow (Some response) item seen.now ≡ busy at flow (request_body (Some response))) × (used_with item used.client ≡ used.client)
+not_passed_by terms at flow response missing seen used there is = (refl, refl)
+not_passed_by terms at flow response (part head body) seen used there is = (refl, refl)
+not_passed_by terms at flow response (complete head body trailers size) seen used there is =
+    let P : Look Command → Type 0 = IsFound in absurd (subst P is tt)
+not_passed_by terms at flow response (bad_head fault) seen used there is = (refl, refl)
+not_passed_by terms at flow response (bad_body fault head body) seen used there is = (refl, refl)
+
+not_passed : (terms : Terms) (stage : Stage) (seen : Sight) (used : UsedBytes) → look terms (pass stage seen) (sight_past stage seen) ≡ NotYet → NotPassed stage seen used
+not_passed terms (idle at) seen used is = record { stays = refl; uses_nothing = refl }
+not_passed terms (busy at flow (request_body None)) seen used is = record { stays = refl; uses_nothing = refl }
+not_passed terms (busy at flow (request_body (Some response))) seen used is =
+    let both = not_passed_by terms at flow response (request_in seen) seen used refl is in
+    record { stays = both.0; uses_nothing = ap (λ n. (let more : UsedBytes = record used { client = n } in more)) both.1 }
+not_passed terms (busy at flow connection) seen used is = record { stays = refl; uses_nothing = refl }
+not_passed terms (busy at flow (response_head side how)) seen used is = record { stays = refl; uses_nothing = refl }
+not_passed terms (busy at flow (response_body side how)) seen used is = record { stays = refl; uses_nothing = refl }
+not_passed terms (busy at flow (upgraded side)) seen used is = record { stays = refl; uses_nothing = refl }
+not_passed terms (busy at flow given_head) seen used is = record { stays = refl; uses_nothing = refl }
+not_passed terms (busy at flow given_body) seen used is = record { stays = refl; uses_nothing = refl }
+not_passed terms (next at) seen used is = record { stays = refl; uses_nothing = refl }
+not_passed terms over seen used is = record { stays = refl; uses_nothing = refl }
 
 stays_there : (terms : Terms) (s : Standing) (f : List (Timed Event)) → look_over terms (passed_over s f) f ≡ NotYet → passed_over s f ≡ s
 stays_there terms s f is =
     let there : Stage = pass s.stage (sight_over s f) in
-    ap (λ stage. (let here : Standing = record s { stage = stage } in here))
-    (not_passed terms s.stage (sight_over s f) (ap (λ v. look terms there v) (sym (sight_passed s (sight_over s f) f)) ∙ is))
+    let none = not_passed terms s.stage (sight_over s f) s.used (ap (λ v. look terms there v) (sym (sight_passed s f)) ∙ is) in
+    ap (λ stage. (let here : Standing = record s { stage = stage; used = used_by_pass s.stage (sight_over s f) s.used } in here)) none.stays
+    ∙ ap (λ used. (let here : Standing = record s { used = used } in here)) none.uses_nothing
 
 -- a turn and the stages that lead on, seen so
 module _ (see : ℕ → ℕ) where
@@ -104,20 +113,14 @@ module _ (see : ℕ → ℕ) where
     abbrev shown : Standing → List (Timed Event) → Sight
     shown s f = shown_over see s f
 
-    -- where a stage passes, a sight is shown as before
-    sight_shown : (stage : Stage) (seen v : Sight) → shown_sight see (pass stage seen) v ≡ shown_sight see stage v
-    sight_shown stage seen v = ap (λ n. (let there : Sight = record v { now = n } in there)) (moment_passed see stage seen v.now)
-
-    passed_shows : (s : Standing) (f : List (Timed Event)) → shown (passed_over s f) f ≡ shown s f
-    passed_shows s f = let v : Sight = sight_over s f in ap (λ x. shown_sight see (pass s.stage v) x) (sight_passed s v f) ∙ sight_shown s.stage v v
-
     -- ---- places that show the same
 
     pub pass_alike : (s : Standing) (f : List (Timed Event)) (t : Standing) (g : List (Timed Event)) → PlacesAlike see s f t g → PlacesAlike see (passed_over s f) f (passed_over t g) g
     pass_alike s f t g place = record {
       stages = pass_shown see s.stage (sight_over s f)
           ∙ (both pass (retimed_stage see s.stage) (retimed_stage see t.stage) (shown s f) (shown t g) place.stages place.sights ∙ sym (pass_shown see t.stage (sight_over t g)));
-      sights = passed_shows s f ∙ (place.sights ∙ sym (passed_shows t g));
+      sights = passed_shown see s f
+          ∙ (both sight_past (retimed_stage see s.stage) (retimed_stage see t.stage) (shown s f) (shown t g) place.stages place.sights ∙ sym (passed_shown see t g));
       may = may_passed s f place.may;
       other_may = may_passed t g place.other_may;
     }
@@ -148,7 +151,11 @@ module _ (see : ℕ → ℕ) where
     -- what is shown there
     led_shows : (s : Standing) (f : List (Timed Event)) (answer : Timed Reply) →
         shown (stands s answer.moment f (led s f answer)) f ≡ sight_behind s.stage (shown s f) (moment_at see (led s f answer) answer.moment) (led s f answer)
-    led_shows s f answer = ap (λ v. shown_sight see (led s f answer) v) (sight_turned onward goes terms s f answer)
+    led_shows s f answer =
+        let seen : Sight = sight_over s f in
+        let there : Stage = led s f answer in
+        ap (λ v. shown_sight see there v) (sight_turned onward goes terms s f answer)
+        ∙ sym (behind_late s.stage there seen (moment_at see s.stage seen.now) (moment_at see there answer.moment))
 
     led_alike : (s : Standing) (f : List (Timed Event)) (t : Standing) (g : List (Timed Event)) (answer other : Timed Reply) →
         retimed_turn see (turn terms s.stage (sight_over s f) answer) ≡ retimed_turn see (turn terms t.stage (sight_over t g) other) →
@@ -229,23 +236,25 @@ module _ (see : ℕ → ℕ) where
           let v : Sight = sight_over s f in
           let stage : Stage = retimed_stage see s.stage in
           let piece : Event = events.Piece place.side place.bytes in
+          let more : Sight = hears (side_of stage) (shown s f) piece in
           let P : Look Command → Type 0 = IsFound in
-          let there : IsFound (look terms (pass stage (shown s f)) (shown s f)) =
-          subst P (ap (λ x. retimed_look see (look terms (pass s.stage v) x)) (sight_passed s v f)
-          ∙ (look_shown see terms (pass s.stage v) v
-          ∙ both (look terms) (retimed_stage see (pass s.stage v)) (pass stage (shown s f)) (shown_sight see (pass s.stage v) v) (shown s f) (pass_shown see s.stage v) (sight_shown s.stage v v)))
+          let there : IsFound (look terms (pass stage (shown s f)) (sight_past stage (shown s f))) =
+          subst P (look_shown see terms (pass s.stage v) (sight_over (passed_over s f) f)
+          ∙ both (look terms) (retimed_stage see (pass s.stage v)) (pass stage (shown s f)) (shown (passed_over s f) f) (sight_past stage (shown s f)) (pass_shown see s.stage v) (passed_shown see s f))
           (is_found_seen (look_over terms (passed_over s f) f) is) in
-          let same : pass stage (hears (side_of stage) (shown s f) piece) ≡ pass stage (shown s f) = pass_stays terms readers place.side place.bytes stage (shown s f) place.open_client there in
+          let same = passes_with terms readers place.side place.bytes stage (shown s f) place.open_client there in
           record {
             side = place.side;
             bytes = place.bytes;
             is_piece = place.is_piece;
             stages = pass_shown see s.stage v
-                ∙ (sym same
-                ∙ (both pass stage (retimed_stage see t.stage) (hears (side_of stage) (shown s f) piece) (shown t g) place.stages (heard_so last s f t g place)
+                ∙ (sym same.stays
+                ∙ (both pass stage (retimed_stage see t.stage) more (shown t g) place.stages (heard_so last s f t g place)
                 ∙ sym (pass_shown see t.stage (sight_over t g))));
-            hears = both (λ a x. hears a x piece) (side_of (pass s.stage v)) (side_of s.stage) (shown (passed_over s f) f) (shown s f)
-                (side_passed s.stage v) (passed_shows s f) ∙ (place.hears ∙ sym (passed_shows t g));
+            hears = both (λ a x. hears a x piece) (side_of (pass s.stage v)) (side_of stage) (shown (passed_over s f) f) (sight_past stage (shown s f))
+                (side_passed s.stage v ∙ sym (side_retimed see s.stage)) (passed_shown see s f)
+                ∙ (sym same.leaves
+                ∙ (both sight_past stage (retimed_stage see t.stage) more (shown t g) place.stages (heard_so last s f t g place) ∙ sym (passed_shown see t g)));
             open_client = place.open_client;
             comes = moment_passed see s.stage v (later last event.stamp).moment ∙ (place.comes ∙ sym (moment_passed see s.stage v (now_over s.since f)));
             heard = λ again. heard_on place.side s.stage (pass s.stage v) (passed_leads s.stage v).dialled (place.heard is);
@@ -298,6 +307,7 @@ module _ (see : ℕ → ℕ) where
           let t' : Stage = led t g answer in
           let stages : retimed_stage see s' ≡ retimed_stage see t' = led_alike s f t g answer answer turned in
           let from : IsSideFrom s.stage (side_of s') = onward_from onward goes terms s.stage (sight_over s f) answer in
+          let leaves = leaves_more terms readers place.side place.bytes s.stage (sight_over s f) (shown s f).now place.open_client there in
           record {
             owed = ap (λ x. x.owed) turned;
             stage = record {
@@ -306,7 +316,7 @@ module _ (see : ℕ → ℕ) where
               is_piece = place.is_piece;
               stages = stages;
               hears = ap (λ x. hears (side_of s') x piece) (led_shows s f answer)
-                  ∙ (hears_behind s.stage s' (shown s f) place.side place.bytes (moment_at see s' answer.moment) from heard
+                  ∙ (hears_behind s.stage s' (shown s f) place.side place.bytes (moment_at see s' answer.moment) from heard leaves
                   ∙ (behind_alike s.stage t.stage (hears (side_of s.stage) (shown s f) piece) (shown t g) (moment_at see s' answer.moment) (moment_at see t' answer.moment) s' t'
                   place.stages place.hears (moment_alike see s' t' answer.moment answer.moment stages refl) stages ∙ sym (led_shows t g answer)));
               open_client = place.open_client;

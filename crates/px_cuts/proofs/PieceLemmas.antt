@@ -19,15 +19,14 @@ use Rattle.px_event.specs.Trace.{is_same_side}
 use Rattle.px_exchange.specs.declared.terms.Terms.{Terms}
 use Rattle.px_cuts.specs.Alike.{HeardEarly}
 use Rattle.px_cuts.proofs.AlikeLaws.{is_found_seen}
-use Rattle.px_chain.specs.Chain.{look, pass}
+use Rattle.px_chain.specs.Chain.{look, pass, sight_past}
 use Rattle.px_chain.specs.Sights.{Sight, Standing, server_with, shut_with, sight_over, sight_with}
 use Rattle.px_cuts.specs.Cuts.{AlikeSeen, as_it_is, DialledBefore, IsDialled, IsNoEarlier, MayBeHeard, MayStand, MayWaitFor, no_moment, piece_at, retimed, retimed_error, retimed_flow, retimed_option}
-use Rattle.px_chain.specs.Stages.{ServerSide, Stage, busy, idle, next, over, place_of, side_of}
+use Rattle.px_chain.specs.Stages.{Stage, busy, idle, next, over, place_of, side_of}
 use Rattle.px_chain.proofs.ChainLaws.{open_still}
 use Rattle.px_chain.proofs.FrontLaws.{closed_more}
-use Rattle.px_chain.proofs.SightLaws.{sight_passed}
-use Rattle.px_cuts.specs.Shown.{hears, look_over, moment_at, passed_over, retimed_stage, shown_over, shown_sight}
-use Rattle.px_cuts.proofs.PlaceLaws.{make_eq, may_more, moment_alike, moment_passed, shown_more}
+use Rattle.px_cuts.specs.Shown.{hears, look_over, moment_at, passed_over, retimed_stage, shown_over}
+use Rattle.px_cuts.proofs.PlaceLaws.{make_eq, may_more, moment_alike, passed_shown, shown_more}
 use Rattle.px_cuts.proofs.ShownLaws.{look_shown, pass_shown, retimed_look}
 use Rattle.px_chain.specs.Streams.{client_closed}
 
@@ -42,20 +41,20 @@ twice_open : (closed : Bool) → ((closed || false) || false) ≡ (closed || fal
 twice_open true = refl
 twice_open false = refl
 
-server_joined : (l : Option ServerSide) (shut : Bool) (server : List ℕ) (side : Side) (bytes more : List ℕ) →
+server_joined : (l : Option ℕ) (shut : Bool) (server : List ℕ) (side : Side) (bytes more : List ℕ) →
     server_with l (shut_with l shut (events.Piece side bytes)) (server_with l shut server (events.Piece side bytes)) (events.Piece side more)
     ≡ server_with l shut server (events.Piece side (bytes ++ more))
 server_joined None shut server side bytes more = refl
 server_joined (Some own) true server side bytes more = refl
-server_joined (Some own) false server side bytes more = joined (is_same_side side (Server own.server)) server bytes more
+server_joined (Some own) false server side bytes more = joined (is_same_side side (Server own)) server bytes more
 
-shut_joined : (l : Option ServerSide) (shut : Bool) (side other : Side) (bytes more : List ℕ) (whole : List ℕ) →
+shut_joined : (l : Option ℕ) (shut : Bool) (side other : Side) (bytes more : List ℕ) (whole : List ℕ) →
     shut_with l (shut_with l shut (events.Piece side bytes)) (events.Piece other more) ≡ shut_with l shut (events.Piece side whole)
 shut_joined None shut side other bytes more whole = refl
 shut_joined (Some own) shut side other bytes more whole = twice_open shut
 
 -- what is seen behind both pieces is what is seen behind the whole
-cut_shown : (own : Option ServerSide) (v : Sight) (side : Side) (bytes more : List ℕ) (now other : ℕ) → now ≡ other →
+cut_shown : (own : Option ℕ) (v : Sight) (side : Side) (bytes more : List ℕ) (now other : ℕ) → now ≡ other →
     hears own (sight_with own v (events.Piece side bytes) now) (events.Piece side more) ≡ sight_with own v (events.Piece side (bytes ++ more)) other
 cut_shown own v side bytes more now other same =
     make_eq _ _ _ _ _ _ _ _ now other (joined (is_same_side side Client) v.client bytes more) (twice_open v.closed)
@@ -83,21 +82,21 @@ either_way true false before bytes more two = ap (λ l. l ++ bytes) (append-nil 
 either_way false true before bytes more two = append-nil (before ++ more) ∙ ap (λ l. l ++ more) (sym (append-nil before))
 either_way false false before bytes more two = refl
 
-server_either : (l : Option ServerSide) (shut : Bool) (server : List ℕ) (side other : Side) (bytes more : List ℕ) → is_same_side side other ≡ false →
+server_either : (l : Option ℕ) (shut : Bool) (server : List ℕ) (side other : Side) (bytes more : List ℕ) → is_same_side side other ≡ false →
     server_with l (shut_with l shut (events.Piece other more)) (server_with l shut server (events.Piece other more)) (events.Piece side bytes)
     ≡ server_with l (shut_with l shut (events.Piece side bytes)) (server_with l shut server (events.Piece side bytes)) (events.Piece other more)
 server_either None shut server side other bytes more two = refl
 server_either (Some own) true server side other bytes more two = refl
 server_either (Some own) false server side other bytes more two =
-    either_way (is_same_side side (Server own.server)) (is_same_side other (Server own.server)) server bytes more (apart side other (Server own.server) two)
+    either_way (is_same_side side (Server own)) (is_same_side other (Server own)) server bytes more (apart side other (Server own) two)
 
-shut_either : (l : Option ServerSide) (shut : Bool) (side other : Side) (bytes more : List ℕ) →
+shut_either : (l : Option ℕ) (shut : Bool) (side other : Side) (bytes more : List ℕ) →
     shut_with l (shut_with l shut (events.Piece other more)) (events.Piece side bytes)
     ≡ shut_with l (shut_with l shut (events.Piece side bytes)) (events.Piece other more)
 shut_either None shut side other bytes more = refl
 shut_either (Some own) shut side other bytes more = refl
 
-swap_shown : (own : Option ServerSide) (v : Sight) (side other : Side) (bytes more : List ℕ) (a b now : ℕ) → is_same_side side other ≡ false → a ≡ now →
+swap_shown : (own : Option ℕ) (v : Sight) (side other : Side) (bytes more : List ℕ) (a b now : ℕ) → is_same_side side other ≡ false → a ≡ now →
     hears own (sight_with own v (events.Piece other more) a) (events.Piece side bytes) ≡ sight_with own (sight_with own v (events.Piece side bytes) b) (events.Piece other more) now
 swap_shown own v side other bytes more a b now two same =
     make_eq _ _ _ _ _ _ _ _ a now (either_way (is_same_side side Client) (is_same_side other Client) v.client bytes more (apart side other Client two)) refl
@@ -125,20 +124,20 @@ stays_open : (closed : Bool) → (closed || false) ≡ closed
 stays_open true = refl
 stays_open false = refl
 
-server_unheard : (l : Option ServerSide) (dials : ℕ) (shut : Bool) (heard : List ℕ) (server : ℕ) (bytes : List ℕ) → DialledBefore l dials → dials ≤ server →
+server_unheard : (l : Option ℕ) (dials : ℕ) (shut : Bool) (heard : List ℕ) (server : ℕ) (bytes : List ℕ) → DialledBefore l dials → dials ≤ server →
     server_with l shut heard (events.Piece (Server server) bytes) ≡ heard
 server_unheard None dials shut heard server bytes before late = refl
 server_unheard (Some own) dials true heard server bytes before late = refl
 server_unheard (Some own) dials false heard server bytes before late =
-    let was : own.server < dials = before in
-    ap (λ l. heard ++ l) (other_piece server own.server bytes (server == own.server) (omega arith) refl) ∙ append-nil heard
+    let was : own < dials = before in
+    ap (λ l. heard ++ l) (other_piece server own bytes (server == own) (omega arith) refl) ∙ append-nil heard
 
-shut_unheard : (l : Option ServerSide) (shut : Bool) (server : ℕ) (bytes : List ℕ) → shut_with l shut (events.Piece (Server server) bytes) ≡ shut
+shut_unheard : (l : Option ℕ) (shut : Bool) (server : ℕ) (bytes : List ℕ) → shut_with l shut (events.Piece (Server server) bytes) ≡ shut
 shut_unheard None shut server bytes = refl
 shut_unheard (Some own) shut server bytes = stays_open shut
 
 -- the sight is the same with it, but for the moment
-unheard_by : (own : Option ServerSide) (dials : ℕ) (v : Sight) (server : ℕ) (bytes : List ℕ) → DialledBefore own dials → dials ≤ server →
+unheard_by : (own : Option ℕ) (dials : ℕ) (v : Sight) (server : ℕ) (bytes : List ℕ) → DialledBefore own dials → dials ≤ server →
     sight_with own v (events.Piece (Server server) bytes) v.now ≡ v
 unheard_by own dials v server bytes before late =
     make_eq _ _ _ _ _ _ _ _ v.now v.now (append-nil v.client) (stays_open v.closed) (server_unheard own dials v.shut v.server server bytes before late) (shut_unheard own v.shut server bytes) refl
@@ -158,21 +157,19 @@ module _ (terms : Terms) (s : Standing) (prefix : List (Timed Event)) (e : Timed
 
   -- what is found where it passed, but for moments
   found_passed : (f : List (Timed Event)) → retimed_look no_moment (look_over terms (passed_over s f) f)
-      ≡ look terms (pass (retimed_stage no_moment s.stage) (shown_over no_moment s f)) (shown_over no_moment s f)
+      ≡ look terms (pass (retimed_stage no_moment s.stage) (shown_over no_moment s f)) (sight_past (retimed_stage no_moment s.stage) (shown_over no_moment s f))
   found_passed f =
-      let there : Stage = pass s.stage (sight_over s f) in
-      ap (λ v. retimed_look no_moment (look terms there v)) (sight_passed s (sight_over s f) f)
-      ∙ (look_shown no_moment terms there (sight_over s f)
-      ∙ (ap (λ x. look terms x (shown_sight no_moment there (sight_over s f))) (pass_shown no_moment s.stage (sight_over s f))
-      ∙ ap (λ n. look terms (pass (retimed_stage no_moment s.stage) (shown_over no_moment s f)) (let v : Sight = record (sight_over s f) { now = n } in v))
-      (moment_passed no_moment s.stage (sight_over s f) (sight_over s f).now)))
+      let there : Standing = passed_over s f in
+      look_shown no_moment terms there.stage (sight_over there f)
+      ∙ (ap (λ x. look terms x (shown_over no_moment there f)) (pass_shown no_moment s.stage (sight_over s f))
+      ∙ ap (λ v. look terms (pass (retimed_stage no_moment s.stage) (shown_over no_moment s f)) v) (passed_shown no_moment s f))
 
   -- nothing is found with it either
   unheard_finds : (server : ℕ) (bytes : List ℕ) → e.value ≡ events.Piece (Server server) bytes → (place_of s.stage).dials ≤ server →
       retimed_look no_moment (look_over terms (passed_over s longer) longer) ≡ NotYet
   unheard_finds server bytes piece late =
       found_passed longer
-      ∙ (ap (λ v. look terms (pass (retimed_stage no_moment s.stage) v) v) (unheard_shows server bytes piece late)
+      ∙ (ap (λ v. look terms (pass (retimed_stage no_moment s.stage) v) (sight_past (retimed_stage no_moment s.stage) v)) (unheard_shows server bytes piece late)
       ∙ (sym (found_passed prefix)
       ∙ (ap (λ x. retimed_look no_moment (look_over terms x prefix)) settled ∙ ap (λ l. retimed_look no_moment l) is)))
 
@@ -202,7 +199,7 @@ module _ (see : ℕ → ℕ) (terms : Terms) where
   cut_early w first second stamp side bytes more may is settled whole half =
       let open_client : client_closed w.prefix ≡ false = open_still terms w.stage.stage (sight_over w.stage w.prefix) is in
       let stage : Stage = w.stage.stage in
-      let own : Option ServerSide = side_of stage in
+      let own : Option ℕ = side_of stage in
       let e : Timed Event = worked_off w.last (piece_at first side bytes) in
       let e' : Timed Event = worked_off w.last (piece_at stamp side (bytes ++ more)) in
       let shows = shown_more see w.stage w.prefix e may open_client in
@@ -230,7 +227,7 @@ module _ (see : ℕ → ℕ) (terms : Terms) where
   next_early w first second side other bytes more may is heard half =
       let open_client : client_closed w.prefix ≡ false = open_still terms w.stage.stage (sight_over w.stage w.prefix) is in
       let stage : Stage = w.stage.stage in
-      let own : Option ServerSide = side_of stage in
+      let own : Option ℕ = side_of stage in
       let e : Timed Event = worked_off w.last (piece_at first side bytes) in
       let e' : Timed Event = worked_off w.last (piece_at second other more) in
       let shows = shown_more see w.stage w.prefix e may open_client in
@@ -259,7 +256,7 @@ module _ (see : ℕ → ℕ) (terms : Terms) where
   swap_early w first second side other bytes more may is two heard half =
       let open_client : client_closed w.prefix ≡ false = open_still terms w.stage.stage (sight_over w.stage w.prefix) is in
       let stage : Stage = w.stage.stage in
-      let own : Option ServerSide = side_of stage in
+      let own : Option ℕ = side_of stage in
       let e : Timed Event = worked_off w.last (piece_at first side bytes) in
       let e' : Timed Event = worked_off w.last (piece_at second other more) in
       let shows = shown_more see w.stage w.prefix e may open_client in

@@ -1,5 +1,5 @@
 -- How what a place shows goes on: with one event more, where the stage passes, and where a reply leads it.
-use Rattle.std.proofs.Common.{◌≡◌, ℕ, ◌+◌, ◌<◌, Bool, true, false, List, [], ◌∷◌, ◌++◌, Option, Some, None, refl, ap, sym, ◌∙◌, subst, arith}
+use Rattle.std.proofs.Common.{◌≡◌, ℕ, ◌<◌, Bool, true, false, List, [], ◌∷◌, ◌++◌, Option, Some, None, refl, ap, sym, ◌∙◌, subst, arith}
 use Rattle.std.specs.Prelude.{◌==◌, if◌then◌else◌}
 use Rattle.std.proofs.lemmas.Bool.{eqb-true}
 use Rattle.px_message.specs.declared.flow.Flow.{Flow}
@@ -28,13 +28,13 @@ use Rattle.px_exchange.specs.Flows.{response_of, with_answer, with_body, with_en
 use Rattle.px_exchange.specs.Places.{is_same_address, server_for}
 use Rattle.px_exchange.specs.Replies.{taken_at_request_body, taken_at_request_head, taken_at_response_body, taken_at_response_head}
 use Rattle.px_exchange.specs.Requests.{expects, flow_of, judged}
-use Rattle.px_chain.specs.Chain.{IsOnward, begin, behind_flow, dial_leads, finish_by, goes_on_by, is_alone, is_sequence, new_side, parked_for, pass, pass_body, sequence, side_behind, side_if, stands, turn, turn_answer, turn_answer_head, turn_body, turn_given_head, turn_head, turn_judged, turn_read_whole, turn_response, turn_returned, turn_taken_answer, turn_taken_body, turn_taken_given, turn_taken_head, turn_taken_returned, turn_taken_whole, turn_whole_answer, used_more}
-use Rattle.px_chain.specs.Sights.{Sight, Standing, answers_in, dials_at, request_in, server_behind, server_in, server_parked, server_with, shut_behind, shut_with, sight_behind, sight_over, sight_with}
+use Rattle.px_chain.specs.Chain.{IsOnward, begin, behind_flow, dial_leads, finish_by, goes_on_by, is_alone, is_sequence, parked_for, pass, pass_body, sequence, side_if, sight_past, stands, turn, turn_answer, turn_answer_head, turn_body, turn_given_head, turn_head, turn_judged, turn_read_whole, turn_response, turn_returned, turn_taken_answer, turn_taken_body, turn_taken_given, turn_taken_head, turn_taken_returned, turn_taken_whole, turn_whole_answer}
+use Rattle.px_chain.specs.Sights.{Sight, Standing, answers_in, client_left, dials_at, request_in, server_behind, server_in, server_left, server_parked, server_with, shut_behind, shut_with, sight_behind, sight_over, sight_with}
 use Rattle.px_chain.specs.Silent.{ParkedBelow}
-use Rattle.px_chain.specs.Stages.{At, Parked, ServerSide, Stage, busy, connection, given_body, given_head, idle, next, over, place_of, request_body, response_body, response_head, side_of, side_parked, Sent, unparked, upgraded}
+use Rattle.px_chain.specs.Stages.{At, Parked, Stage, busy, connection, given_body, given_head, idle, next, over, place_of, request_body, response_body, response_head, side_of, side_parked, Sent, unparked, upgraded}
 use Rattle.px_event.specs.Sides.{piece_of}
 use Rattle.px_chain.specs.Streams.{client_closed}
-use Rattle.px_chain.proofs.SightLaws.{IsSideFrom, is_new, no_side, same_server, sight_more, within_more, within_passed, within_stood}
+use Rattle.px_chain.proofs.SightLaws.{IsSideFrom, is_new, no_side, onward_from, same_server, sight_more, sight_passed, within_more, within_passed, within_stood}
 use Rattle.px_cuts.specs.Cuts.{DialledBefore, IsDialled, MayBeHeard, MayStand}
 use Rattle.px_cuts.specs.Shown.{hears, moment_at, passed_over, retimed_stage, shown_over, shown_sight}
 
@@ -82,7 +82,7 @@ module _ (see : ℕ → ℕ) where
 
   pub moment_passed : (stage : Stage) (seen : Sight) (moment : ℕ) → moment_at see (pass stage seen) moment ≡ moment_at see stage moment
   moment_passed (idle at) seen moment = refl
-  moment_passed (busy at flow (request_body given)) seen moment = body_shows at flow given (request_in at seen) seen.now moment
+  moment_passed (busy at flow (request_body given)) seen moment = body_shows at flow given (request_in seen) seen.now moment
   moment_passed (busy at flow connection) seen moment = refl
   moment_passed (busy at flow (response_head side how)) seen moment = refl
   moment_passed (busy at flow (response_body side how)) seen moment = refl
@@ -102,7 +102,7 @@ below_dials None dials below = tt
 below_dials (Some parked) dials below = below
 
 pub begins : (at : At) → ParkedBelow at.parked at.dials → MayStand (begin (idle at)) []
-begins at below = record { within = record { since = omega arith; opened = omega arith }; dialled = below_dials at.parked at.dials below }
+begins at below = record { within = record { since = omega arith; opened = omega arith; client = omega arith; server = omega arith }; dialled = below_dials at.parked at.dials below }
 
 -- ---- from a stage to another
 
@@ -129,7 +129,7 @@ body_passes at flow (Some response) (bad_body fault head body) now = stays (busy
 
 pub passed_leads : (stage : Stage) (seen : Sight) → Leads stage (pass stage seen)
 passed_leads (idle at) seen = stays (idle at)
-passed_leads (busy at flow (request_body given)) seen = body_passes at flow given (request_in at seen) seen.now
+passed_leads (busy at flow (request_body given)) seen = body_passes at flow given (request_in seen) seen.now
 passed_leads (busy at flow connection) seen = stays (busy at flow connection)
 passed_leads (busy at flow (response_head side how)) seen = stays (busy at flow (response_head side how))
 passed_leads (busy at flow (response_body side how)) seen = stays (busy at flow (response_body side how))
@@ -164,30 +164,30 @@ module _ (place : Place) (at : At) (flow : Flow) (given : Option Response) where
   abbrev from_request : Stage
   from_request = busy at flow (request_body given)
 
-  goes_on_by_side : (to_it : Bool) (parked : Parked) (used : ℕ) (other : Flow) → at.parked ≡ Some parked →
-      Leads from_request (goes_on_by (side_if to_it parked.side) place (used_more at used) other).stage
-  goes_on_by_side true parked used other is =
-      let P : Option Parked → Type 0 = λ p. DialledBefore (side_parked p) at.dials → parked.side.server < at.dials in
+  goes_on_by_side : (to_it : Bool) (parked : Parked) (other : Flow) → at.parked ≡ Some parked →
+      Leads from_request (goes_on_by (side_if to_it parked.server) place at other).stage
+  goes_on_by_side true parked other is =
+      let P : Option Parked → Type 0 = λ p. DialledBefore (side_parked p) at.dials → parked.server < at.dials in
       record { dialled = λ server there. there; before = subst P (sym is) (λ there. there) }
-  goes_on_by_side false parked used other is = record { dialled = λ server there. there; before = λ there. there }
+  goes_on_by_side false parked other is = record { dialled = λ server there. there; before = λ there. there }
 
-  goes_on : (request : Request) (parked : Option Parked) (used : ℕ) (other : Flow) → at.parked ≡ parked →
-      Leads from_request (goes_on_by (parked_for place request parked) place (used_more at used) other).stage
-  goes_on request None used other is = record { dialled = λ server there. there; before = λ there. there }
-  goes_on request (Some parked) used other is = goes_on_by_side (is_same_address parked.address (server_for place request)) parked used other is
+  goes_on : (request : Request) (parked : Option Parked) (other : Flow) → at.parked ≡ parked →
+      Leads from_request (goes_on_by (parked_for place request parked) place at other).stage
+  goes_on request None other is = record { dialled = λ server there. there; before = λ there. there }
+  goes_on request (Some parked) other is = goes_on_by_side (is_same_address parked.address (server_for place request)) parked other is
 
-  body_taken : (used : ℕ) (other : Flow) (taken : Taken Request) (moment : ℕ) (seen : Sight) →
-      Leads from_request (turn_taken_body place (used_more at used) other taken moment seen).stage
-  body_taken used other (GoesOn request) moment seen = goes_on request at.parked used (record other { request = request }) refl
-  body_taken used other (Responds response) moment seen = record { dialled = λ server is. is; before = λ is. is }
-  body_taken used other Kills moment seen = leads_over from_request
+  body_taken : (other : Flow) (taken : Taken Request) (moment : ℕ) (seen : Sight) →
+      Leads from_request (turn_taken_body place at other taken moment seen).stage
+  body_taken other (GoesOn request) moment seen = goes_on request at.parked (record other { request = request }) refl
+  body_taken other (Responds response) moment seen = record { dialled = λ server is. is; before = λ is. is }
+  body_taken other Kills moment seen = leads_over from_request
 
   body_turned : (item : Item ReadRequest) (seen : Sight) (answer : Timed Reply) → Leads from_request (turn_body place at flow item seen answer).stage
   body_turned missing seen answer = leads_over from_request
   body_turned (part head body) seen answer = leads_over from_request
   body_turned (complete head body trailers used) seen answer =
       let whole : Flow = with_body flow body.content trailers seen.now in
-      body_taken used whole (taken_at_request_body whole.request answer.value) answer.moment seen
+      body_taken whole (taken_at_request_body whole.request answer.value) answer.moment seen
   body_turned (bad_head fault) seen answer = leads_over from_request
   body_turned (bad_body fault head body) seen answer = leads_over from_request
 
@@ -237,7 +237,7 @@ given_turned at flow other answer parked closed =
     (λ taken. given_taken at (busy at flow given_head) (λ server is. is) (λ is. is) other taken answer.moment parked closed)
 
 -- the server's side stays
-module _ (at : At) (flow : Flow) (side : ServerSide) (how : Sent) where
+module _ (at : At) (flow : Flow) (side : ℕ) (how : Sent) where
   abbrev from_head : Stage
   from_head = busy at flow (response_head side how)
 
@@ -260,42 +260,42 @@ module _ (at : At) (flow : Flow) (side : ServerSide) (how : Sent) where
   abbrev from_body : Stage
   from_body = busy at flow (response_body side how)
 
-  -- also where it switches protocols, behind so many bytes more
-  finish_turned : (switches : Bool) (other : Flow) (response : Response) (more : ℕ) (used : Used) (closed : Bool) →
-      Leads from_body (finish_by switches at other response (side_behind side more) used closed).stage
-  finish_turned true other response more used closed = record { dialled = λ server is. is; before = λ is. is }
-  finish_turned false other response more used closed =
+  -- also where it switches protocols
+  finish_turned : (switches : Bool) (other : Flow) (response : Response) (used : Used) (closed : Bool) →
+      Leads from_body (finish_by switches at other response side used closed).stage
+  finish_turned true other response used closed = record { dialled = λ server is. is; before = λ is. is }
+  finish_turned false other response used closed =
       flow_finished (unparked at) from_body (λ server is. is) (λ is. tt) (connection_goes_on at.flow other.request response)
 
-  taken_whole_turned : (other : Flow) (taken : Taken Response) (more : ℕ) (moment : ℕ) (used : Used) (closed : Bool) →
-      Leads from_body (turn_taken_whole at other (side_behind side more) taken moment used closed).stage
-  taken_whole_turned other (GoesOn response) more moment used closed = finish_turned (response.status == 101) other response more used closed
-  taken_whole_turned other (Responds response) more moment used closed = leads_over from_body
-  taken_whole_turned other Kills more moment used closed = leads_over from_body
+  taken_whole_turned : (other : Flow) (taken : Taken Response) (moment : ℕ) (used : Used) (closed : Bool) →
+      Leads from_body (turn_taken_whole at other side taken moment used closed).stage
+  taken_whole_turned other (GoesOn response) moment used closed = finish_turned (response.status == 101) other response used closed
+  taken_whole_turned other (Responds response) moment used closed = leads_over from_body
+  taken_whole_turned other Kills moment used closed = leads_over from_body
 
-  read_whole_turned : (other : Flow) (more : ℕ) (answer : Timed Reply) (used : Used) (closed : Bool) →
-      Leads from_body (turn_read_whole at other (side_behind side more) answer used closed).stage
-  read_whole_turned other more answer used closed =
+  read_whole_turned : (other : Flow) (answer : Timed Reply) (used : Used) (closed : Bool) →
+      Leads from_body (turn_read_whole at other side answer used closed).stage
+  read_whole_turned other answer used closed =
       response_turned from_body other.response (λ response. taken_at_response_body response answer.value)
-      (λ taken. turn_taken_whole at other (side_behind side more) taken answer.moment used closed)
-      (λ taken. taken_whole_turned other taken more answer.moment used closed)
+      (λ taken. turn_taken_whole at other side taken answer.moment used closed)
+      (λ taken. taken_whole_turned other taken answer.moment used closed)
 
-  returned_turned : (interim : ℕ) (item : Item ReadResponse) (seen : Sight) (answer : Timed Reply) → Leads from_body (turn_returned at flow side interim item seen answer).stage
-  returned_turned interim missing seen answer = leads_over from_body
-  returned_turned interim (part head body) seen answer = leads_over from_body
-  returned_turned interim (complete head body trailers size) seen answer =
-      read_whole_turned (with_returned flow body.content trailers seen.now) (interim + size) answer (server_in side seen) seen.closed
-  returned_turned interim (bad_head fault) seen answer = leads_over from_body
-  returned_turned interim (bad_body fault head body) seen answer = leads_over from_body
+  returned_turned : (item : Item ReadResponse) (seen : Sight) (answer : Timed Reply) → Leads from_body (turn_returned at flow side item seen answer).stage
+  returned_turned missing seen answer = leads_over from_body
+  returned_turned (part head body) seen answer = leads_over from_body
+  returned_turned (complete head body trailers size) seen answer =
+      read_whole_turned (with_returned flow body.content trailers seen.now) answer (server_in side seen) seen.closed
+  returned_turned (bad_head fault) seen answer = leads_over from_body
+  returned_turned (bad_body fault head body) seen answer = leads_over from_body
 
 -- Where a reply leads, whatever was asked.
 turned_leads : (terms : Terms) (stage : Stage) (seen : Sight) (answer : Timed Reply) → Leads stage (turn terms stage seen answer).stage
-turned_leads terms (idle at) seen answer = head_turned terms at (request_in at seen) seen answer
-turned_leads terms (busy at flow (request_body given)) seen answer = body_turned terms.place at flow given (request_in at seen) seen answer
+turned_leads terms (idle at) seen answer = head_turned terms at (request_in seen) seen answer
+turned_leads terms (busy at flow (request_body given)) seen answer = body_turned terms.place at flow given (request_in seen) seen answer
 turned_leads terms (busy at flow connection) seen answer = dial_turned terms.place at flow answer.value
-turned_leads terms (busy at flow (response_head side how)) seen answer = answer_turned at flow side how (answers_in flow.request side seen).final seen answer
+turned_leads terms (busy at flow (response_head side how)) seen answer = answer_turned at flow side how (answers_in flow.request seen).final seen answer
 turned_leads terms (busy at flow (response_body side how)) seen answer =
-    returned_turned at flow side how (answers_in flow.request side seen).used (answers_in flow.request side seen).final seen answer
+    returned_turned at flow side how (answers_in flow.request seen).final seen answer
 turned_leads terms (busy at flow (upgraded side)) seen answer = leads_over (busy at flow (upgraded side))
 turned_leads terms (busy at flow given_head) seen answer = given_turned at flow (with_start flow seen.now) answer (server_parked at.parked seen) seen.closed
 turned_leads terms (busy at flow given_body) seen answer = whole_turned at flow (with_end flow seen.now) answer (server_parked at.parked seen) seen.closed
@@ -321,16 +321,18 @@ onward_leads onward goes terms stage seen answer = leads_on onward goes stage (t
 
 pub may_passed : (place : Standing) (prefix : List (Timed Event)) → MayStand place prefix → MayStand (passed_over place prefix) prefix
 may_passed place prefix may = record {
-  within = within_passed place (sight_over place prefix) prefix may.within;
+  within = within_passed place prefix may.within;
   dialled = (passed_leads place.stage (sight_over place prefix)).before may.dialled;
 }
 
 pub may_turned : (onward : Stage → Stage) → IsOnward onward → (terms : Terms) (place : Standing) (prefix : List (Timed Event)) (answer : Timed Reply) → MayStand place prefix →
     MayStand (stands place answer.moment prefix (onward (turn terms place.stage (sight_over place prefix) answer).stage)) prefix
-may_turned onward goes terms place prefix answer may = record {
-  within = within_stood place answer.moment prefix (onward (turn terms place.stage (sight_over place prefix) answer).stage) may.within;
-  dialled = (onward_leads onward goes terms place.stage (sight_over place prefix) answer).before may.dialled;
-}
+may_turned onward goes terms place prefix answer may =
+    let seen : Sight = sight_over place prefix in
+    record {
+      within = within_stood place answer.moment prefix (onward (turn terms place.stage seen answer).stage) (onward_from onward goes terms place.stage seen answer) may.within;
+      dialled = (onward_leads onward goes terms place.stage seen answer).before may.dialled;
+    }
 
 -- ---- a piece that waits is heard behind a reply as before it
 
@@ -345,32 +347,29 @@ new_piece Client bytes at flow may = refl
 new_piece (Server server) bytes at flow may = later_piece server at.dials bytes (server == at.dials) may refl
 
 -- What is seen of the server's side, heard before the reply or behind it.
-record HeardBehind (dialled : Bool) (before later : Option ServerSide) (shut : Bool) (server : List ℕ) (event : Event) : Type 0 where
+record HeardBehind (dialled : Bool) (before later : Option ℕ) (shut : Bool) (server : List ℕ) (event : Event) : Type 0 where
   bytes : server_with later (shut_behind dialled later shut) (server_behind dialled later server) event ≡ server_behind dialled later (server_with before shut server event)
   close : shut_with later (shut_behind dialled later shut) event ≡ shut_behind dialled later (shut_with before shut event)
 
-behind_none : (dialled : Bool) (before : Option ServerSide) (shut : Bool) (server : List ℕ) (event : Event) → HeardBehind dialled before None shut server event
+behind_none : (dialled : Bool) (before : Option ℕ) (shut : Bool) (server : List ℕ) (event : Event) → HeardBehind dialled before None shut server event
 behind_none true before shut server event = record { bytes = refl; close = refl }
 behind_none false before shut server event = record { bytes = refl; close = refl }
 
-behind_new : (at : At) (flow : Flow) (before : Option ServerSide) (shut : Bool) (server : List ℕ) (side : Side) (bytes : List ℕ) → MayBeHeard side (busy at flow connection) →
-    HeardBehind true before (Some (new_side at.dials)) shut server (events.Piece side bytes)
+behind_new : (at : At) (flow : Flow) (before : Option ℕ) (shut : Bool) (server : List ℕ) (side : Side) (bytes : List ℕ) → MayBeHeard side (busy at flow connection) →
+    HeardBehind true before (Some at.dials) shut server (events.Piece side bytes)
 behind_new at flow before shut server side bytes may = record { bytes = new_piece side bytes at flow may; close = refl }
 
-behind_same : (was after : ServerSide) (shut : Bool) (server : List ℕ) (side : Side) (bytes : List ℕ) → after.server ≡ was.server →
-    HeardBehind false (Some was) (Some after) shut server (events.Piece side bytes)
-behind_same was after shut server side bytes same = record {
-  bytes = ap (λ n. if shut then server else (server ++ piece_of (Server n) (events.Piece side bytes))) same;
-  close = refl;
-}
+behind_same : (side : Option ℕ) (shut : Bool) (server : List ℕ) (event : Event) → HeardBehind false side side shut server event
+behind_same None shut server event = behind_none false None shut server event
+behind_same (Some side) shut server event = record { bytes = refl; close = refl }
 
-heard_behind : (from : Stage) (later : Option ServerSide) (shut : Bool) (server : List ℕ) (side : Side) (bytes : List ℕ) → IsSideFrom from later → MayBeHeard side from →
+heard_behind : (from : Stage) (later : Option ℕ) (shut : Bool) (server : List ℕ) (side : Side) (bytes : List ℕ) → IsSideFrom from later → MayBeHeard side from →
     HeardBehind (dials_at from) (side_of from) later shut server (events.Piece side bytes)
 heard_behind from later shut server side bytes (no_side is) may = rw is (behind_none (dials_at from) (side_of from) shut server (events.Piece side bytes))
 heard_behind from later shut server side bytes (is_new at flow is new) may =
     let P : Stage → Type 0 = λ s. MayBeHeard side s → HeardBehind (dials_at s) (side_of s) later shut server (events.Piece side bytes) in
     subst P (sym is) (λ heard. rw new (behind_new at flow (side_parked at.parked) shut server side bytes heard)) may
-heard_behind from later shut server side bytes (same_server before after none was is same) may = rw (none, was, is) (behind_same before after shut server side bytes same)
+heard_behind from later shut server side bytes (same_server none is) may = rw (none, is) (behind_same (side_of from) shut server (events.Piece side bytes))
 
 abbrev make : List ℕ → Bool → List ℕ → Bool → ℕ → Sight
 make client closed server shut now = record { client = client; closed = closed; server = server; shut = shut; now = now }
@@ -380,18 +379,57 @@ pub make_eq : (client client' : List ℕ) (closed closed' : Bool) (server server
     make client closed server shut now ≡ make client' closed' server' shut' now'
 make_eq client client' closed closed' server server' shut shut' now now' a b c d e = rw (a, b, c, d, e) refl
 
+-- What a stage leaves is left with one event more behind it.
+pub record LeavesMore (stage : Stage) (seen : Sight) (event : Event) : Type 0 where
+  pub client : client_left stage (hears (side_of stage) seen event) ≡ client_left stage seen ++ piece_of Client event
+  pub server : server_left stage (hears (side_of stage) seen event) ≡ server_with (side_of stage) seen.shut (server_left stage seen) event
+
 -- What is seen behind a reply is the same, heard before it or behind it.
 pub hears_behind : (from to : Stage) (seen : Sight) (side : Side) (bytes : List ℕ) (now : ℕ) → IsSideFrom from (side_of to) → MayBeHeard side from →
+    LeavesMore from seen (events.Piece side bytes) →
     hears (side_of to) (sight_behind from seen now to) (events.Piece side bytes) ≡ sight_behind from (hears (side_of from) seen (events.Piece side bytes)) now to
-hears_behind from to seen side bytes now how may =
-    let heard = heard_behind from (side_of to) seen.shut seen.server side bytes how may in
-    make_eq _ _ _ _ _ _ _ _ now now refl refl heard.bytes heard.close refl
+hears_behind from to seen side bytes now how may leaves =
+    let heard = heard_behind from (side_of to) seen.shut (server_left from seen) side bytes how may in
+    make_eq _ _ _ _ _ _ _ _ now now (sym leaves.client) refl
+    (heard.bytes ∙ ap (λ l. server_behind (dials_at from) (side_of to) l) (sym leaves.server)) heard.close refl
 
 -- ---- and so it is, the stages seen so
 
--- the sight behind a reply, by whether a dial was answered and by the side that is used there
-abbrev seen_behind : Bool → Option ServerSide → Sight → ℕ → Sight
-seen_behind dialled side seen now = make seen.client seen.closed (server_behind dialled side seen.server) (shut_behind dialled side seen.shut) now
+-- the sight behind a reply, by whether a dial was answered, by the side that is used there and by what is left
+abbrev seen_behind : Bool → Option ℕ → List ℕ → List ℕ → Sight → ℕ → Sight
+seen_behind dialled side client server seen now = make client seen.closed (server_behind dialled side server) (shut_behind dialled side seen.shut) now
+
+-- what is left hangs on no moment
+client_late : (stage : Stage) (seen : Sight) (late : ℕ) → client_left stage (record seen { now = late }) ≡ client_left stage seen
+client_late (idle at) seen late = refl
+client_late (busy at flow (request_body given)) seen late = refl
+client_late (busy at flow connection) seen late = refl
+client_late (busy at flow (response_head side how)) seen late = refl
+client_late (busy at flow (response_body side how)) seen late = refl
+client_late (busy at flow (upgraded side)) seen late = refl
+client_late (busy at flow given_head) seen late = refl
+client_late (busy at flow given_body) seen late = refl
+client_late (next at) seen late = refl
+client_late over seen late = refl
+
+server_late : (stage : Stage) (seen : Sight) (late : ℕ) → server_left stage (record seen { now = late }) ≡ server_left stage seen
+server_late (idle at) seen late = refl
+server_late (busy at flow (request_body given)) seen late = refl
+server_late (busy at flow connection) seen late = refl
+server_late (busy at flow (response_head side how)) seen late = refl
+server_late (busy at flow (response_body side how)) seen late = refl
+server_late (busy at flow (upgraded side)) seen late = refl
+server_late (busy at flow given_head) seen late = refl
+server_late (busy at flow given_body) seen late = refl
+server_late (next at) seen late = refl
+server_late over seen late = refl
+
+-- nor does what is seen behind a reply
+pub behind_late : (from to : Stage) (seen : Sight) (late moment : ℕ) → sight_behind from (record seen { now = late }) moment to ≡ sight_behind from seen moment to
+behind_late from to seen late moment =
+    let there : Sight = record seen { now = late } in
+    ap (λ l. seen_behind (dials_at from) (side_of to) l (server_left from there) seen moment) (client_late from seen late)
+    ∙ ap (λ l. seen_behind (dials_at from) (side_of to) (client_left from seen) l seen moment) (server_late from seen late)
 
 module _ (see : ℕ → ℕ) where
   dials_retimed : (stage : Stage) → dials_at (retimed_stage see stage) ≡ dials_at stage
@@ -400,7 +438,59 @@ module _ (see : ℕ → ℕ) where
   dials_retimed (next at) = refl
   dials_retimed over = refl
 
+  client_retimed : (stage : Stage) (seen : Sight) → client_left (retimed_stage see stage) seen ≡ client_left stage seen
+  client_retimed (idle at) seen = refl
+  client_retimed (busy at flow (request_body given)) seen = refl
+  client_retimed (busy at flow connection) seen = refl
+  client_retimed (busy at flow (response_head side how)) seen = refl
+  client_retimed (busy at flow (response_body side how)) seen = refl
+  client_retimed (busy at flow (upgraded side)) seen = refl
+  client_retimed (busy at flow given_head) seen = refl
+  client_retimed (busy at flow given_body) seen = refl
+  client_retimed (next at) seen = refl
+  client_retimed over seen = refl
+
+  server_retimed : (stage : Stage) (seen : Sight) → server_left (retimed_stage see stage) seen ≡ server_left stage seen
+  server_retimed (idle at) seen = refl
+  server_retimed (busy at flow (request_body given)) seen = refl
+  server_retimed (busy at flow connection) seen = refl
+  server_retimed (busy at flow (response_head side how)) seen = refl
+  server_retimed (busy at flow (response_body side how)) seen = refl
+  server_retimed (busy at flow (upgraded side)) seen = refl
+  server_retimed (busy at flow given_head) seen = refl
+  server_retimed (busy at flow given_body) seen = refl
+  server_retimed (next at) seen = refl
+  server_retimed over seen = refl
+
   pub behind_retimed : (from to : Stage) (seen : Sight) (now : ℕ) → sight_behind (retimed_stage see from) seen now (retimed_stage see to) ≡ sight_behind from seen now to
   behind_retimed from to seen now =
-      ap (λ dialled. seen_behind dialled (side_of (retimed_stage see to)) seen now) (dials_retimed from)
-      ∙ ap (λ side. seen_behind (dials_at from) side seen now) (side_retimed see to)
+      let client = client_left (retimed_stage see from) seen in
+      let server = server_left (retimed_stage see from) seen in
+      ap (λ dialled. seen_behind dialled (side_of (retimed_stage see to)) client server seen now) (dials_retimed from)
+      ∙ (ap (λ side. seen_behind (dials_at from) side client server seen now) (side_retimed see to)
+      ∙ (ap (λ l. seen_behind (dials_at from) (side_of to) l server seen now) (client_retimed from seen)
+      ∙ ap (λ l. seen_behind (dials_at from) (side_of to) (client_left from seen) l seen now) (server_retimed from seen)))
+
+  -- ---- and where it passes
+
+  past_retimed : (stage : Stage) (seen : Sight) → shown_sight see stage (sight_past stage seen) ≡ sight_past (retimed_stage see stage) (shown_sight see stage seen)
+  past_retimed (idle at) seen = refl
+  past_retimed (busy at flow (request_body None)) seen = refl
+  past_retimed (busy at flow (request_body (Some response))) seen = refl
+  past_retimed (busy at flow connection) seen = refl
+  past_retimed (busy at flow (response_head side how)) seen = refl
+  past_retimed (busy at flow (response_body side how)) seen = refl
+  past_retimed (busy at flow (upgraded side)) seen = refl
+  past_retimed (busy at flow given_head) seen = refl
+  past_retimed (busy at flow given_body) seen = refl
+  past_retimed (next at) seen = refl
+  past_retimed over seen = refl
+
+  -- what is shown there is what is left of what is shown
+  pub passed_shown : (place : Standing) (prefix : List (Timed Event)) →
+      shown_over see (passed_over place prefix) prefix ≡ sight_past (retimed_stage see place.stage) (shown_over see place prefix)
+  passed_shown place prefix =
+      let seen : Sight = sight_over place prefix in
+      let past : Sight = sight_past place.stage seen in
+      ap (λ v. shown_sight see (pass place.stage seen) v) (sight_passed place prefix)
+      ∙ (ap (λ n. (let there : Sight = record past { now = n } in there)) (moment_passed see place.stage seen past.now) ∙ past_retimed place.stage seen)

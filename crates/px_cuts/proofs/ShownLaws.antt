@@ -1,5 +1,5 @@
 -- All that a stage finds, owes, passes to and turns to, its moments seen so, is that of the stage and the sight seen so.
-use Rattle.std.proofs.Common.{◌≡◌, ℕ, ◌+◌, Bool, true, false, List, [], ◌∷◌, ◌++◌, map, Option, Some, None, refl, ap, ◌∙◌}
+use Rattle.std.proofs.Common.{◌≡◌, ℕ, Bool, true, false, List, [], ◌∷◌, ◌++◌, map, Option, Some, None, refl, ap, ◌∙◌}
 use Rattle.std.specs.Prelude.{◌==◌, not, if◌then◌else◌}
 use Rattle.std.proofs.lemmas.List.{map-append}
 use Rattle.px_message.specs.declared.fault.Fault.{Fault}
@@ -26,7 +26,7 @@ use Rattle.px_exchange.specs.declared.taken.Taken.{Taken}
 use Rattle.px_exchange.specs.declared.taken.Taken.TheVariants.{GoesOn, Responds, Kills}
 use Rattle.px_exchange.specs.declared.place.Place.{Place}
 use Rattle.px_exchange.specs.declared.terms.Terms.{Terms}
-use Rattle.px_chain.specs.Chain.{behind, behind_flow, dial_leads, finish, finish_by, goes_on_by, killed, look, parked_for, pass, pass_body, side_behind, so_far, turn, turn_answer, turn_answer_head, turn_body, turn_given_head, turn_head, turn_judged, turn_read_whole, turn_response, turn_returned, turn_taken_answer, turn_taken_body, turn_taken_given, turn_taken_head, turn_taken_returned, turn_taken_whole, turn_whole_answer, used_more}
+use Rattle.px_chain.specs.Chain.{behind, behind_flow, dial_leads, finish, finish_by, goes_on_by, killed, look, parked_for, pass, pass_body, so_far, turn, turn_answer, turn_answer_head, turn_body, turn_given_head, turn_head, turn_judged, turn_read_whole, turn_response, turn_returned, turn_taken_answer, turn_taken_body, turn_taken_given, turn_taken_head, turn_taken_returned, turn_taken_whole, turn_whole_answer}
 use Rattle.px_exchange.specs.Flows.{ask_of, response_of, with_answer, with_body, with_end, with_returned, with_start}
 use Rattle.px_exchange.specs.Dials.{dial_owes}
 use Rattle.px_exchange.specs.Finds.{is_relayed, look_answer, look_answer_head, look_body, look_head, look_judged, look_returned, or_leaves}
@@ -35,7 +35,7 @@ use Rattle.px_exchange.specs.Endings.{closed_message, connection_goes_on, ends_b
 use Rattle.px_exchange.specs.Replies.{taken_at_request_body, taken_at_request_head, taken_at_response_head}
 use Rattle.px_exchange.specs.Requests.{expects, flow_of, is_head, is_http11, judged}
 use Rattle.px_cuts.specs.Shown.{retimed_sight, retimed_stage, shown_sight}
-use Rattle.px_chain.specs.Stages.{At, Parked, ServerSide, Stage, busy, connection, given_body, given_head, idle, next, over, request_body, response_body, response_head, unparked, upgraded}
+use Rattle.px_chain.specs.Stages.{At, Parked, Stage, busy, connection, given_body, given_head, idle, next, over, request_body, response_body, response_head, unparked, upgraded}
 use Rattle.px_chain.specs.Sights.{Sight, answers_in, request_in, server_in, server_parked}
 use Rattle.px_exchange.specs.Texts.{interim_command}
 
@@ -161,22 +161,22 @@ module _ (see : ℕ → ℕ) where
   look_shown terms (idle at) seen =
       let used : Used = server_parked at.parked seen in
       looked seen.closed _ _ _ _ (shut_server_seen used ∙ ap (λ u. shut_server u) (parked_seen at.parked seen))
-      (look_head_seen terms at.flow (request_in at seen) seen.now used seen.closed
-      ∙ ap (λ u. look_head terms at.flow (request_in at seen) (see seen.now) u seen.closed) (parked_seen at.parked seen))
+      (look_head_seen terms at.flow (request_in seen) seen.now used seen.closed
+      ∙ ap (λ u. look_head terms at.flow (request_in seen) (see seen.now) u seen.closed) (parked_seen at.parked seen))
   look_shown terms (busy at flow (request_body given)) seen =
       let used : Used = server_parked at.parked seen in
       looked seen.closed _ _ _ _
       (ends_early_seen flow closed_message seen.now used true
       ∙ ap (λ u. ends_early (retimed_flow see flow) closed_message (see seen.now) u true) (parked_seen at.parked seen))
-      (look_body_seen flow (request_in at seen) seen.now used seen.closed
-      ∙ ap (λ u. look_body (retimed_flow see flow) (request_in at seen) (see seen.now) u seen.closed) (parked_seen at.parked seen))
+      (look_body_seen flow (request_in seen) seen.now used seen.closed
+      ∙ ap (λ u. look_body (retimed_flow see flow) (request_in seen) (see seen.now) u seen.closed) (parked_seen at.parked seen))
   look_shown terms (busy at flow connection) seen = refl
   look_shown terms (busy at flow (response_head side how)) seen =
       looked seen.closed _ _ _ _ (ends_early_seen flow closed_message seen.now (server_in side seen) true)
-      (look_answer_seen flow (answers_in flow.request side seen).final seen.now (server_in side seen) seen.closed)
+      (look_answer_seen flow (answers_in flow.request seen).final seen.now (server_in side seen) seen.closed)
   look_shown terms (busy at flow (response_body side how)) seen =
       looked seen.closed _ _ _ _ (ends_early_seen (without_response flow) closed_message seen.now (server_in side seen) true)
-      (look_returned_seen flow (answers_in flow.request side seen).final seen.now (server_in side seen) seen.closed)
+      (look_returned_seen flow (answers_in flow.request seen).final seen.now (server_in side seen) seen.closed)
   look_shown terms (busy at flow (upgraded side)) seen = refl
   look_shown terms (busy at flow given_head) seen = refl
   look_shown terms (busy at flow given_body) seen = refl
@@ -198,7 +198,7 @@ module _ (see : ℕ → ℕ) where
   so_far_shown (idle at) seen = refl
   so_far_shown (busy at flow (request_body given)) seen = refl
   so_far_shown (busy at flow connection) seen = refl
-  so_far_shown (busy at flow (response_head side how)) seen = interim_by (is_http11 flow.request.version) (answers_in flow.request side seen).interim
+  so_far_shown (busy at flow (response_head side how)) seen = interim_by (is_http11 flow.request.version) (answers_in flow.request seen).interim
   so_far_shown (busy at flow (response_body side how)) seen = refl
   so_far_shown (busy at flow (upgraded side)) seen = refl
   so_far_shown (busy at flow given_head) seen = refl
@@ -233,7 +233,7 @@ module _ (see : ℕ → ℕ) where
 
   pub pass_shown : (stage : Stage) (seen : Sight) → retimed_stage see (pass stage seen) ≡ pass (retimed_stage see stage) (shown_sight see stage seen)
   pass_shown (idle at) seen = refl
-  pass_shown (busy at flow (request_body given)) seen = passed_seen at flow given (request_in at seen) seen.now
+  pass_shown (busy at flow (request_body given)) seen = passed_seen at flow given (request_in seen) seen.now
   pass_shown (busy at flow connection) seen = refl
   pass_shown (busy at flow (response_head side how)) seen = refl
   pass_shown (busy at flow (response_body side how)) seen = refl
@@ -284,7 +284,7 @@ module _ (see : ℕ → ℕ) where
   head_turn_seen terms at (bad_head fault) seen answer = refl
   head_turn_seen terms at (bad_body fault head body) seen answer = judged_turn_seen terms at head (judged terms.place head) seen answer
 
-  goes_on_seen : (to : Place) (at : At) (flow : Flow) (side : Option ServerSide) → retimed_turn see (goes_on_by side to at flow) ≡ goes_on_by side to at (retimed_flow see flow)
+  goes_on_seen : (to : Place) (at : At) (flow : Flow) (side : Option ℕ) → retimed_turn see (goes_on_by side to at flow) ≡ goes_on_by side to at (retimed_flow see flow)
   goes_on_seen to at flow None = refl
   goes_on_seen to at flow (Some side) = refl
 
@@ -301,7 +301,7 @@ module _ (see : ℕ → ℕ) where
   body_turn_seen to at flow (part head body) seen answer = refl
   body_turn_seen to at flow (complete head body trailers used) seen answer =
       let whole : Flow = with_body flow body.content trailers seen.now in
-      taken_body_seen to (used_more at used) whole (taken_at_request_body whole.request answer.value) answer.moment seen
+      taken_body_seen to at whole (taken_at_request_body whole.request answer.value) answer.moment seen
   body_turn_seen to at flow (bad_head fault) seen answer = refl
   body_turn_seen to at flow (bad_body fault head body) seen answer = refl
 
@@ -322,21 +322,21 @@ module _ (see : ℕ → ℕ) where
   dial_leads_seen to at flow reply.Kill = refl
   dial_leads_seen to at flow reply.Discard = refl
 
-  taken_answer_seen : (at : At) (flow : Flow) (side : ServerSide) (taken : Taken Response) (moment : ℕ) (used : Used) (closed : Bool) →
+  taken_answer_seen : (at : At) (flow : Flow) (side : ℕ) (taken : Taken Response) (moment : ℕ) (used : Used) (closed : Bool) →
       retimed_turn see (turn_taken_answer at flow side taken moment used closed)
       ≡ turn_taken_answer at (retimed_flow see flow) side taken (see moment) used closed
   taken_answer_seen at flow side (GoesOn response) moment used closed = refl
   taken_answer_seen at flow side (Responds response) moment used closed = killed_seen (without_response flow) moment used closed
   taken_answer_seen at flow side Kills moment used closed = killed_seen (without_response flow) moment used closed
 
-  answer_head_turn_seen : (at : At) (flow : Flow) (side : ServerSide) (head : ReadResponse) (seen : Sight) (answer : Timed Reply) →
+  answer_head_turn_seen : (at : At) (flow : Flow) (side : ℕ) (head : ReadResponse) (seen : Sight) (answer : Timed Reply) →
       retimed_turn see (turn_answer_head at flow side head seen answer)
       ≡ turn_answer_head at (retimed_flow see flow) side head (retimed_sight see seen) (retimed_reply see answer)
   answer_head_turn_seen at flow side head seen answer =
       taken_answer_seen at (with_answer flow (response_of head) seen.now) side
       (taken_at_response_head (response_of head) answer.value) answer.moment (server_in side seen) seen.closed
 
-  answer_turn_seen : (at : At) (flow : Flow) (side : ServerSide) (item : Item ReadResponse) (seen : Sight) (answer : Timed Reply) →
+  answer_turn_seen : (at : At) (flow : Flow) (side : ℕ) (item : Item ReadResponse) (seen : Sight) (answer : Timed Reply) →
       retimed_turn see (turn_answer at flow side item seen answer)
       ≡ turn_answer at (retimed_flow see flow) side item (retimed_sight see seen) (retimed_reply see answer)
   answer_turn_seen at flow side missing seen answer = refl
@@ -396,34 +396,34 @@ module _ (see : ℕ → ℕ) where
       response_seen flow.response _ _ _
       (λ taken. taken_returned_seen at flow taken answer.moment parked closed)
 
-  finish_by_seen : (switches : Bool) (at : At) (flow : Flow) (response : Response) (side : ServerSide) (used : Used) (closed : Bool) →
+  finish_by_seen : (switches : Bool) (at : At) (flow : Flow) (response : Response) (side : ℕ) (used : Used) (closed : Bool) →
       retimed_turn see (finish_by switches at flow response side used closed) ≡ finish_by switches at (retimed_flow see flow) response side used closed
   finish_by_seen true at flow response side used closed = refl
   finish_by_seen false at flow response side used closed = finish_seen (unparked at) flow response used NoServer closed
 
-  taken_whole_seen : (at : At) (flow : Flow) (side : ServerSide) (taken : Taken Response) (moment : ℕ) (used : Used) (closed : Bool) →
+  taken_whole_seen : (at : At) (flow : Flow) (side : ℕ) (taken : Taken Response) (moment : ℕ) (used : Used) (closed : Bool) →
       retimed_turn see (turn_taken_whole at flow side taken moment used closed)
       ≡ turn_taken_whole at (retimed_flow see flow) side taken (see moment) used closed
   taken_whole_seen at flow side (GoesOn response) moment used closed = finish_by_seen (response.status == 101) at flow response side used closed
   taken_whole_seen at flow side (Responds response) moment used closed = killed_seen flow moment used closed
   taken_whole_seen at flow side Kills moment used closed = killed_seen flow moment used closed
 
-  read_whole_seen : (at : At) (flow : Flow) (side : ServerSide) (answer : Timed Reply) (used : Used) (closed : Bool) →
+  read_whole_seen : (at : At) (flow : Flow) (side : ℕ) (answer : Timed Reply) (used : Used) (closed : Bool) →
       retimed_turn see (turn_read_whole at flow side answer used closed)
       ≡ turn_read_whole at (retimed_flow see flow) side (retimed_reply see answer) used closed
   read_whole_seen at flow side answer used closed =
       response_seen flow.response _ _ _
       (λ taken. taken_whole_seen at flow side taken answer.moment used closed)
 
-  returned_turn_seen : (at : At) (flow : Flow) (side : ServerSide) (interim : ℕ) (item : Item ReadResponse) (seen : Sight) (answer : Timed Reply) →
-      retimed_turn see (turn_returned at flow side interim item seen answer)
-      ≡ turn_returned at (retimed_flow see flow) side interim item (retimed_sight see seen) (retimed_reply see answer)
-  returned_turn_seen at flow side interim missing seen answer = refl
-  returned_turn_seen at flow side interim (part head body) seen answer = refl
-  returned_turn_seen at flow side interim (complete head body trailers size) seen answer =
-      read_whole_seen at (with_returned flow body.content trailers seen.now) (side_behind side (interim + size)) answer (server_in side seen) seen.closed
-  returned_turn_seen at flow side interim (bad_head fault) seen answer = refl
-  returned_turn_seen at flow side interim (bad_body fault head body) seen answer = refl
+  returned_turn_seen : (at : At) (flow : Flow) (side : ℕ) (item : Item ReadResponse) (seen : Sight) (answer : Timed Reply) →
+      retimed_turn see (turn_returned at flow side item seen answer)
+      ≡ turn_returned at (retimed_flow see flow) side item (retimed_sight see seen) (retimed_reply see answer)
+  returned_turn_seen at flow side missing seen answer = refl
+  returned_turn_seen at flow side (part head body) seen answer = refl
+  returned_turn_seen at flow side (complete head body trailers size) seen answer =
+      read_whole_seen at (with_returned flow body.content trailers seen.now) side answer (server_in side seen) seen.closed
+  returned_turn_seen at flow side (bad_head fault) seen answer = refl
+  returned_turn_seen at flow side (bad_body fault head body) seen answer = refl
 
   given_turn_seen : (at : At) (flow : Flow) (answer : Timed Reply) (parked : Used) (closed : Bool) →
       retimed_turn see (turn_given_head at flow answer parked closed) ≡ turn_given_head at (retimed_flow see flow) (retimed_reply see answer) parked closed
@@ -433,14 +433,14 @@ module _ (see : ℕ → ℕ) where
 
   pub turn_shown : (terms : Terms) (stage : Stage) (seen : Sight) (answer : Timed Reply) →
       retimed_turn see (turn terms stage seen answer) ≡ turn terms (retimed_stage see stage) (shown_sight see stage seen) (retimed_reply see answer)
-  turn_shown terms (idle at) seen answer = head_turn_seen terms at (request_in at seen) seen answer
-  turn_shown terms (busy at flow (request_body given)) seen answer = body_turn_seen terms.place at flow (request_in at seen) seen answer
+  turn_shown terms (idle at) seen answer = head_turn_seen terms at (request_in seen) seen answer
+  turn_shown terms (busy at flow (request_body given)) seen answer = body_turn_seen terms.place at flow (request_in seen) seen answer
   turn_shown terms (busy at flow connection) seen answer =
       turning_eq _ _ _ _ (dial_owes_seen terms.place flow at.dials answer.value answer.moment seen.closed) (dial_leads_seen terms.place at flow answer.value)
   turn_shown terms (busy at flow (response_head side how)) seen answer =
-      answer_turn_seen at flow side (answers_in flow.request side seen).final seen answer
+      answer_turn_seen at flow side (answers_in flow.request seen).final seen answer
   turn_shown terms (busy at flow (response_body side how)) seen answer =
-      returned_turn_seen at flow side (answers_in flow.request side seen).used (answers_in flow.request side seen).final seen answer
+      returned_turn_seen at flow side (answers_in flow.request seen).final seen answer
   turn_shown terms (busy at flow (upgraded side)) seen answer = refl
   turn_shown terms (busy at flow given_head) seen answer =
       given_turn_seen at (with_start flow seen.now) answer (server_parked at.parked seen) seen.closed

@@ -1,6 +1,7 @@
 -- What is found stays found with a piece more, by the laws of the readers: an event that waits is heard early.
-use Rattle.std.proofs.Common.{◌≡◌, ℕ, Bool, true, false, List, [], ◌∷◌, ◌++◌, drop, Option, Some, None, refl, ap, sym, ◌∙◌, subst}
-use Rattle.std.specs.Prelude.{zero, suc, ◌||◌}
+use Rattle.std.proofs.Common.{◌≡◌, ℕ, ◌≤◌, Bool, true, false, List, ◌++◌, drop, length, Option, Some, None, refl, ap, sym, ◌∙◌, subst, arith}
+use Rattle.std.specs.Prelude.{◌||◌}
+use Rattle.std.proofs.lemmas.List.{drop-append-le, length-drop}
 use Rattle.px_message.specs.declared.flow.Flow.{Flow}
 use Rattle.px_message.specs.declared.request.Request.{Request}
 use Rattle.px_message.specs.declared.response.Response.{Response}
@@ -12,10 +13,13 @@ use Rattle.px_event.specs.declared.side.Side.{Side}
 use Rattle.px_event.specs.declared.side.Side.TheVariants.{Client, Server}
 use Rattle.px_event.specs.Chain.{Timed, Look, NotYet, Asks, Ends}
 use Rattle.px_event.specs.Laws.{IsFound}
-use Rattle.px_read.specs.Items.{answer_list, Item, missing, part, complete, bad_head, bad_body, request_item}
+use Rattle.px_read.specs.Items.{answer_list, Answers, Body, Item, missing, part, complete, bad_head, bad_body, request_item}
 use Rattle.px_read.specs.Laws.{FinalHeadStays, FinalStays, head_in, InterimStay, is_begun, is_decided, RequestHeadStays, RequestStays}
 use Rattle.px_read.specs.declared.head.RequestHead.{RequestHead as ReadRequest}
 use Rattle.px_read.specs.declared.head.ResponseHead.{ResponseHead as ReadResponse}
+use Rattle.px_read.proofs.AnswerLemmas.{answers_used}
+use Rattle.px_read.proofs.ItemLemmas.{request_used}
+use Rattle.px_read.proofs.LawLemmas.{chunk_laws}
 use Rattle.px_exchange.specs.declared.asked.Judged.{Judged}
 use Rattle.px_exchange.specs.declared.asked.Judged.TheVariants.{Refused, Accepted, Connects}
 use Rattle.px_exchange.specs.declared.ending.Used.{Used}
@@ -26,10 +30,11 @@ use Rattle.px_exchange.specs.declared.taken.Taken.TheVariants.{GoesOn, Responds,
 use Rattle.px_exchange.specs.declared.terms.Terms.{Terms}
 use Rattle.px_exchange.specs.Finds.{look_answer, look_answer_head, look_body, look_head, look_judged, look_returned, or_leaves}
 use Rattle.px_cuts.specs.Shown.{hears}
+use Rattle.px_cuts.proofs.PlaceLaws.{LeavesMore}
 use Rattle.px_exchange.specs.Requests.{expects, flow_of, is_head, judged}
-use Rattle.px_chain.specs.Chain.{behind, killed, look, pass, pass_body, so_far, turn, turn_answer, turn_answer_head, turn_body, turn_given_head, turn_head, turn_judged, turn_returned, turn_taken_body, turn_taken_head, turn_whole_answer, used_more}
-use Rattle.px_chain.specs.Sights.{Sight, server_parked, server_with, shut_with}
-use Rattle.px_chain.specs.Stages.{At, Parked, ServerSide, Stage, busy, connection, given_body, given_head, idle, next, over, request_body, response_body, response_head, side_of, side_parked, upgraded}
+use Rattle.px_chain.specs.Chain.{behind, killed, look, pass, pass_body, sight_past, so_far, turn, turn_answer, turn_answer_head, turn_body, turn_given_head, turn_head, turn_judged, turn_returned, turn_taken_body, turn_taken_head, turn_whole_answer}
+use Rattle.px_chain.specs.Sights.{Sight, left_by, server_parked, server_with, shut_with}
+use Rattle.px_chain.specs.Stages.{At, Parked, Stage, busy, connection, given_body, given_head, idle, next, over, request_body, response_body, response_head, side_of, side_parked, upgraded}
 use Rattle.px_event.specs.Sides.{piece_of}
 use Rattle.px_exchange.specs.Flows.{with_body, with_end, with_start}
 use Rattle.px_exchange.specs.Replies.{taken_at_request_body, taken_at_request_head}
@@ -58,43 +63,25 @@ data SameHead {H : Type 0} (item later : Item H) : Type 0 where
   same : later ≡ item → SameHead item later
   heads : (head : H) → head_in item ≡ Some head → head_in later ≡ Some head → SameHead item later
 
-drop_split : (n : ℕ) (xs ys : List ℕ) → (more : List ℕ) × (drop n (xs ++ ys) ≡ drop n xs ++ more)
-drop_split zero xs ys = (ys, refl)
-drop_split (suc n) [] ys = (drop (suc n) ys, refl)
-drop_split (suc n) (x ∷ xs) ys = drop_split n xs ys
-
-request_split : ReadersStay → (n : ℕ) (bytes more later : List ℕ) → drop n (bytes ++ more) ≡ drop n bytes ++ later →
-    Stays (request_item (drop n bytes)) (request_item (drop n (bytes ++ more)))
-request_split readers n bytes more later is = record {
-  head = λ head at. ap (λ l. head_in (request_item l)) is ∙ readers.request_head (drop n bytes) later head at;
-  decided = λ at. ap (λ l. request_item l) is ∙ readers.request (drop n bytes) later at;
+request_stays : ReadersStay → (bytes more : List ℕ) → Stays (request_item bytes) (request_item (bytes ++ more))
+request_stays readers bytes more = record {
+  head = λ head at. readers.request_head bytes more head at;
+  decided = λ at. readers.request bytes more at;
 }
 
-request_stays : ReadersStay → (n : ℕ) (bytes more : List ℕ) → Stays (request_item (drop n bytes)) (request_item (drop n (bytes ++ more)))
-request_stays readers n bytes more = let split = drop_split n bytes more in request_split readers n bytes more split.0 split.1
-
-final_split : ReadersStay → (asked_head : Bool) (n : ℕ) (bytes more later : List ℕ) → drop n (bytes ++ more) ≡ drop n bytes ++ later →
-    Stays (answer_list asked_head false (drop n bytes)).final (answer_list asked_head false (drop n (bytes ++ more))).final
-final_split readers asked_head n bytes more later is = record {
-  head = λ head at. ap (λ l. head_in (answer_list asked_head false l).final) is ∙ readers.final_head asked_head false (drop n bytes) later head at;
-  decided = λ at. ap (λ l. (answer_list asked_head false l).final) is ∙ readers.final asked_head false (drop n bytes) later at;
+final_stays : ReadersStay → (asked_head : Bool) (bytes more : List ℕ) → Stays (answer_list asked_head false bytes).final (answer_list asked_head false (bytes ++ more)).final
+final_stays readers asked_head bytes more = record {
+  head = λ head at. readers.final_head asked_head false bytes more head at;
+  decided = λ at. readers.final asked_head false bytes more at;
 }
 
-final_stays : ReadersStay → (asked_head : Bool) (n : ℕ) (bytes more : List ℕ) →
-    Stays (answer_list asked_head false (drop n bytes)).final (answer_list asked_head false (drop n (bytes ++ more))).final
-final_stays readers asked_head n bytes more = let split = drop_split n bytes more in final_split readers asked_head n bytes more split.0 split.1
+interim_stays : ReadersStay → (asked_head : Bool) (bytes more : List ℕ) → is_begun (answer_list asked_head false bytes).final ≡ true →
+    (answer_list asked_head false (bytes ++ more)).interim ≡ (answer_list asked_head false bytes).interim
+interim_stays readers asked_head bytes more begun = (readers.interim asked_head false bytes more begun).0
 
-interim_stays : ReadersStay → (asked_head : Bool) (n : ℕ) (bytes more : List ℕ) → is_begun (answer_list asked_head false (drop n bytes)).final ≡ true →
-    (answer_list asked_head false (drop n (bytes ++ more))).interim ≡ (answer_list asked_head false (drop n bytes)).interim
-interim_stays readers asked_head n bytes more begun =
-    let split = drop_split n bytes more in
-    ap (λ l. (answer_list asked_head false l).interim) split.1 ∙ (readers.interim asked_head false (drop n bytes) split.0 begun).0
-
-used_stays : ReadersStay → (asked_head : Bool) (n : ℕ) (bytes more : List ℕ) → is_begun (answer_list asked_head false (drop n bytes)).final ≡ true →
-    (answer_list asked_head false (drop n (bytes ++ more))).used ≡ (answer_list asked_head false (drop n bytes)).used
-used_stays readers asked_head n bytes more begun =
-    let split = drop_split n bytes more in
-    ap (λ l. (answer_list asked_head false l).used) split.1 ∙ (readers.interim asked_head false (drop n bytes) split.0 begun).1
+used_stays : ReadersStay → (asked_head : Bool) (bytes more : List ℕ) → is_begun (answer_list asked_head false bytes).final ≡ true →
+    (answer_list asked_head false (bytes ++ more)).used ≡ (answer_list asked_head false bytes).used
+used_stays readers asked_head bytes more begun = (readers.interim asked_head false bytes more begun).1
 
 none_is : {H : Type 0} {P : Type 0} (head : H) → None ≡ Some head → P
 none_is head is = absurd (let e : None ≡ Some head = is in cc)
@@ -152,7 +139,7 @@ look_answer_same : (flow : Flow) (item later : Item ReadResponse) (now : ℕ) (u
 look_answer_same flow item later now used closed (same is) = ap (λ i. look_answer flow i now used closed) is
 look_answer_same flow item later now used closed (heads head is at) = answer_looked flow later head now used closed at ∙ sym (answer_looked flow item head now used closed is)
 
-answer_led : (at : At) (flow : Flow) (side : ServerSide) (item : Item ReadResponse) (head : ReadResponse) (seen : Sight) (answer : Timed Reply) → head_in item ≡ Some head →
+answer_led : (at : At) (flow : Flow) (side : ℕ) (item : Item ReadResponse) (head : ReadResponse) (seen : Sight) (answer : Timed Reply) → head_in item ≡ Some head →
     turn_answer at flow side item seen answer ≡ turn_answer_head at flow side head seen answer
 answer_led at flow side missing head seen answer is = none_is head is
 answer_led at flow side (part h body) head seen answer is = ap (λ k. turn_answer_head at flow side k seen answer) (some_is h head is)
@@ -160,7 +147,7 @@ answer_led at flow side (complete h body trailers size) head seen answer is = ap
 answer_led at flow side (bad_head fault) head seen answer is = none_is head is
 answer_led at flow side (bad_body fault h body) head seen answer is = ap (λ k. turn_answer_head at flow side k seen answer) (some_is h head is)
 
-answer_turn_same : (at : At) (flow : Flow) (side : ServerSide) (item later : Item ReadResponse) (seen : Sight) (answer : Timed Reply) → SameHead item later →
+answer_turn_same : (at : At) (flow : Flow) (side : ℕ) (item later : Item ReadResponse) (seen : Sight) (answer : Timed Reply) → SameHead item later →
     turn_answer at flow side later seen answer ≡ turn_answer at flow side item seen answer
 answer_turn_same at flow side item later seen answer (same is) = ap (λ i. turn_answer at flow side i seen answer) is
 answer_turn_same at flow side item later seen answer (heads head is there) =
@@ -251,22 +238,22 @@ module _ (client client' : List ℕ) (closed : Bool) (server server' : List ℕ)
       head_reads terms (bad_head fault) = refl
       head_reads terms (bad_body fault head body) = judged_reads terms head (judged terms.place head)
 
-    body_taken_reads : (to : Place) (used : ℕ) (flow : Flow) (taken : Taken Request) (moment : ℕ) →
-        turn_taken_body to (used_more at used) flow taken moment one ≡ turn_taken_body to (used_more at used) flow taken moment other
-    body_taken_reads to used flow (GoesOn request) moment = refl
-    body_taken_reads to used flow (Responds response) moment = refl
-    body_taken_reads to used flow Kills moment = ap (λ u. killed flow moment u closed) parked
+    body_taken_reads : (to : Place) (flow : Flow) (taken : Taken Request) (moment : ℕ) →
+        turn_taken_body to at flow taken moment one ≡ turn_taken_body to at flow taken moment other
+    body_taken_reads to flow (GoesOn request) moment = refl
+    body_taken_reads to flow (Responds response) moment = refl
+    body_taken_reads to flow Kills moment = ap (λ u. killed flow moment u closed) parked
 
     body_reads : (answer : Timed Reply) (to : Place) (flow : Flow) (item : Item ReadRequest) → turn_body to at flow item one answer ≡ turn_body to at flow item other answer
     body_reads answer to flow missing = refl
     body_reads answer to flow (part head body) = refl
     body_reads answer to flow (complete head body trailers used) =
         let whole : Flow = with_body flow body.content trailers now in
-        body_taken_reads to used whole (taken_at_request_body whole.request answer.value) answer.moment
+        body_taken_reads to whole (taken_at_request_body whole.request answer.value) answer.moment
     body_reads answer to flow (bad_head fault) = refl
     body_reads answer to flow (bad_body fault head body) = refl
 
-module _ (client client' : List ℕ) (closed : Bool) (server server' : List ℕ) (shut : Bool) (now : ℕ) (answer : Timed Reply) (at : At) (flow : Flow) (side : ServerSide) where
+module _ (client client' : List ℕ) (closed : Bool) (server server' : List ℕ) (shut : Bool) (now : ℕ) (answer : Timed Reply) (at : At) (flow : Flow) (side : ℕ) where
   abbrev longer : Sight
   longer = make client closed server shut now
 
@@ -280,12 +267,23 @@ module _ (client client' : List ℕ) (closed : Bool) (server server' : List ℕ)
   answer_reads (bad_head fault) = refl
   answer_reads (bad_body fault head body) = refl
 
-  returned_reads : (interim : ℕ) (item : Item ReadResponse) → turn_returned at flow side interim item longer answer ≡ turn_returned at flow side interim item before answer
-  returned_reads interim missing = refl
-  returned_reads interim (part head body) = refl
-  returned_reads interim (complete head body trailers size) = refl
-  returned_reads interim (bad_head fault) = refl
-  returned_reads interim (bad_body fault head body) = refl
+  returned_reads : (item : Item ReadResponse) → turn_returned at flow side item longer answer ≡ turn_returned at flow side item before answer
+  returned_reads missing = refl
+  returned_reads (part head body) = refl
+  returned_reads (complete head body trailers size) = refl
+  returned_reads (bad_head fault) = refl
+  returned_reads (bad_body fault head body) = refl
+
+-- ---- what is left, with more behind it
+
+left_more : {H : Type 0} (item : Item H) (bytes more : List ℕ) →
+    ((head : H) (body : Body) (trailers : List (List ℕ × List ℕ)) (size : ℕ) → item ≡ complete head body trailers size → size ≤ length bytes) →
+    left_by item (bytes ++ more) ≡ left_by item bytes ++ more
+left_more missing bytes more fits = refl
+left_more (part head body) bytes more fits = refl
+left_more (complete head body trailers size) bytes more fits = drop-append-le size bytes more (fits head body trailers size refl)
+left_more (bad_head fault) bytes more fits = refl
+left_more (bad_body fault head body) bytes more fits = refl
 
 -- ---- a piece more
 
@@ -301,7 +299,7 @@ module _ (terms : Terms) (readers : ReadersStay) (side : Side) (bytes : List ℕ
   parked_by : (parked : Option Parked) (client client' : List ℕ) (server server' : List ℕ) (shut : Bool) (now : ℕ) →
       server_parked parked (make client false server (shut_with (side_parked parked) shut piece) now) ≡ server_parked parked (make client' false server' shut now)
   parked_by None client client' server server' shut now = refl
-  parked_by (Some parked) client client' server server' shut now = ap (λ b. ByServer parked.side.server b) (still_open shut)
+  parked_by (Some parked) client client' server server' shut now = ap (λ b. ByServer parked.server b) (still_open shut)
 
   module _ (client server : List ℕ) (shut : Bool) (now : ℕ) where
     abbrev shorter : Sight
@@ -317,10 +315,10 @@ module _ (terms : Terms) (readers : ReadersStay) (side : Side) (bytes : List ℕ
     idle_finds : (at : At) → IsFound (look terms (idle at) shorter) → FindsAlike terms (idle at) shorter (with_piece at)
     idle_finds at found =
         let longer = client ++ piece_of Client piece in
-        let item = request_item (drop at.used client) in
-        let later = request_item (drop at.used longer) in
+        let item = request_item client in
+        let later = request_item longer in
         let used : Used = server_parked at.parked shorter in
-        let stays = request_stays readers at.used client (piece_of Client piece) in
+        let stays = request_stays readers client (piece_of Client piece) in
         let heads = head_found terms at.flow item later now used false stays (or_found (shut_server used) (look_head terms at.flow item now used false) found) in
         record {
           look = ap (λ u. or_leaves false (shut_server u) (look_head terms at.flow later now u false)) (parked_heard at)
@@ -335,10 +333,10 @@ module _ (terms : Terms) (readers : ReadersStay) (side : Side) (bytes : List ℕ
         FindsAlike terms (busy at flow (request_body given)) shorter (with_piece at)
     request_finds at flow given found =
         let longer = client ++ piece_of Client piece in
-        let item = request_item (drop at.used client) in
-        let later = request_item (drop at.used longer) in
+        let item = request_item client in
+        let later = request_item longer in
         let used : Used = server_parked at.parked shorter in
-        let stays = request_stays readers at.used client (piece_of Client piece) in
+        let stays = request_stays readers client (piece_of Client piece) in
         let whole = body_found flow item later now used false stays (or_found (ends_early flow closed_message now used true) (look_body flow item now used false) found) in
         record {
           look = ap (λ u. or_leaves false (ends_early flow closed_message now u true) (look_body flow later now u false)) (parked_heard at)
@@ -364,20 +362,20 @@ module _ (terms : Terms) (readers : ReadersStay) (side : Side) (bytes : List ℕ
     so_far = refl;
     behind = refl;
     turn = λ answer.
-        answer_reads (client ++ piece_of Client piece) client false server server true now answer at flow own (answer_list (is_head flow.request.method) true (drop own.used server)).final;
+        answer_reads (client ++ piece_of Client piece) client false server server true now answer at flow own (answer_list (is_head flow.request.method) true server).final;
   }
   finds_by (busy at flow (response_head own how)) client server false now found =
       let asked_head = is_head flow.request.method in
       let longer = client ++ piece_of Client piece in
-      let more = piece_of (Server own.server) piece in
-      let item = (answer_list asked_head false (drop own.used server)).final in
-      let later = (answer_list asked_head false (drop own.used (server ++ more))).final in
-      let used : Used = ByServer own.server false in
+      let more = piece_of (Server own) piece in
+      let item = (answer_list asked_head false server).final in
+      let later = (answer_list asked_head false (server ++ more)).final in
+      let used : Used = ByServer own false in
       let there = or_found (ends_early flow closed_message now used true) (look_answer flow item now used false) found in
-      let heads = answer_found flow item later now used false (final_stays readers asked_head own.used server more) there in
+      let heads = answer_found flow item later now used false (final_stays readers asked_head server more) there in
       record {
         look = ap (λ l. or_leaves false (ends_early flow closed_message now used true) l) (look_answer_same flow item later now used false heads);
-        so_far = ap (λ l. interim_commands flow.request l) (interim_stays readers asked_head own.used server more (answer_begun flow item now used false there));
+        so_far = ap (λ l. interim_commands flow.request l) (interim_stays readers asked_head server more (answer_begun flow item now used false there));
         behind = refl;
         turn = λ answer. answer_turn_same at flow own item later (make longer false (server ++ more) false now) answer heads
             ∙ answer_reads longer client false (server ++ more) server false now answer at flow own item;
@@ -387,27 +385,23 @@ module _ (terms : Terms) (readers : ReadersStay) (side : Side) (bytes : List ℕ
     so_far = refl;
     behind = refl;
     turn = λ answer.
-        let answers = answer_list (is_head flow.request.method) true (drop own.used server) in
-        returned_reads (client ++ piece_of Client piece) client false server server true now answer at flow own answers.used answers.final;
+        returned_reads (client ++ piece_of Client piece) client false server server true now answer at flow own (answer_list (is_head flow.request.method) true server).final;
   }
   finds_by (busy at flow (response_body own how)) client server false now found =
       let asked_head = is_head flow.request.method in
       let longer = client ++ piece_of Client piece in
-      let more = piece_of (Server own.server) piece in
-      let item = (answer_list asked_head false (drop own.used server)).final in
-      let later = (answer_list asked_head false (drop own.used (server ++ more))).final in
-      let used : Used = ByServer own.server false in
+      let more = piece_of (Server own) piece in
+      let item = (answer_list asked_head false server).final in
+      let later = (answer_list asked_head false (server ++ more)).final in
+      let used : Used = ByServer own false in
       let there = or_found (ends_early (without_response flow) closed_message now used true) (look_returned flow item now used false) found in
-      let interim : ℕ = (answer_list asked_head false (drop own.used server)).used in
-      let whole = returned_found flow item later now used false (final_stays readers asked_head own.used server more) there in
-      let before = used_stays readers asked_head own.used server more (returned_begun flow item now used false there) in
+      let whole = returned_found flow item later now used false (final_stays readers asked_head server more) there in
       record {
         look = ap (λ i. or_leaves false (ends_early (without_response flow) closed_message now used true) (look_returned flow i now used false)) whole;
         so_far = refl;
         behind = refl;
-        turn = λ answer. ap (λ n. turn_returned at flow own n later (make longer false (server ++ more) false now) answer) before
-            ∙ (ap (λ i. turn_returned at flow own interim i (make longer false (server ++ more) false now) answer) whole
-            ∙ returned_reads longer client false (server ++ more) server false now answer at flow own interim item);
+        turn = λ answer. ap (λ i. turn_returned at flow own i (make longer false (server ++ more) false now) answer) whole
+            ∙ returned_reads longer client false (server ++ more) server false now answer at flow own item;
       }
   finds_by (busy at flow (upgraded own)) client server shut now found = record { look = refl; so_far = refl; behind = refl; turn = λ answer. refl }
   finds_by (busy at flow given_head) client server shut now found = record {
@@ -432,49 +426,135 @@ module _ (terms : Terms) (readers : ReadersStay) (side : Side) (bytes : List ℕ
       FindsAlike terms stage (make v.client b v.server v.shut v.now) (hears (side_of stage) (make v.client b v.server v.shut v.now) piece) in
       subst P (sym open_client) (finds_by stage v.client v.server v.shut v.now) found
 
+  -- ---- what is left there
+
+  -- with the piece what is left of the client's bytes has it behind it
+  request_leaves : (at : At) (flow : Flow) (given : Option Response) (client server : List ℕ) (shut : Bool) (now : ℕ) →
+      IsFound (look terms (busy at flow (request_body given)) (make client false server shut now)) →
+      left_by (request_item (client ++ piece_of Client piece)) (client ++ piece_of Client piece) ≡ left_by (request_item client) client ++ piece_of Client piece
+  request_leaves at flow given client server shut now found =
+      let more = piece_of Client piece in
+      let item = request_item client in
+      let used : Used = server_parked at.parked (make client false server shut now) in
+      let whole = body_found flow item (request_item (client ++ more)) now used false (request_stays readers client more)
+      (or_found (ends_early flow closed_message now used true) (look_body flow item now used false) found) in
+      ap (λ i. left_by i (client ++ more)) whole ∙ left_more item client more (λ head body trailers size is. (request_used chunk_laws client head body trailers size is).1)
+
+  -- and what is left of the server's
+  server_leaves : (flow : Flow) (own : ℕ) (server : List ℕ) (now : ℕ) →
+      IsFound (look_returned flow (answer_list (is_head flow.request.method) false server).final now (ByServer own false) false) →
+      let before = answer_list (is_head flow.request.method) false server in
+      let after = answer_list (is_head flow.request.method) false (server ++ piece_of (Server own) piece) in
+      left_by after.final (drop after.used (server ++ piece_of (Server own) piece)) ≡ left_by before.final (drop before.used server) ++ piece_of (Server own) piece
+  server_leaves flow own server now found =
+      let asked_head = is_head flow.request.method in
+      let more = piece_of (Server own) piece in
+      let before : Answers = answer_list asked_head false server in
+      let after : Answers = answer_list asked_head false (server ++ more) in
+      let fit = answers_used chunk_laws (length server) asked_head false server in
+      let used : Used = ByServer own false in
+      let whole : after.final ≡ before.final = returned_found flow before.final after.final now used false (final_stays readers asked_head server more) found in
+      let same : after.used ≡ before.used = used_stays readers asked_head server more (returned_begun flow before.final now used false found) in
+      let left = length-drop before.used server in
+      ap (λ i. left_by i (drop after.used (server ++ more))) whole
+      ∙ (ap (λ n. left_by before.final (drop n (server ++ more))) same
+      ∙ (ap (λ l. left_by before.final l) (drop-append-le before.used server more fit.used)
+      ∙ left_more before.final (drop before.used server) more
+      (λ head body trailers size is. let both = fit.final head body trailers size is in let fits = both.1 in omega arith)))
+
+  -- at any moment
+  leaves_by : (stage : Stage) (client server : List ℕ) (shut : Bool) (now late : ℕ) → IsFound (look terms stage (make client false server shut now)) →
+      LeavesMore stage (make client false server shut late) piece
+  leaves_by (idle at) client server shut now late found = record { client = refl; server = refl }
+  leaves_by (busy at flow (request_body given)) client server shut now late found =
+      record { client = request_leaves at flow given client server shut now found; server = refl }
+  leaves_by (busy at flow connection) client server shut now late found = record { client = refl; server = refl }
+  leaves_by (busy at flow (response_head own how)) client server shut now late found = record { client = refl; server = refl }
+  leaves_by (busy at flow (response_body own how)) client server true now late found = record { client = refl; server = refl }
+  leaves_by (busy at flow (response_body own how)) client server false now late found =
+      let item = (answer_list (is_head flow.request.method) false server).final in
+      record {
+        client = refl;
+        server = server_leaves flow own server now
+            (or_found (ends_early (without_response flow) closed_message now (ByServer own false) true) (look_returned flow item now (ByServer own false) false) found);
+      }
+  leaves_by (busy at flow (upgraded own)) client server shut now late found = record { client = refl; server = refl }
+  leaves_by (busy at flow given_head) client server shut now late found = record { client = refl; server = refl }
+  leaves_by (busy at flow given_body) client server shut now late found = record { client = refl; server = refl }
+  leaves_by (next at) client server shut now late found = record { client = refl; server = refl }
+  leaves_by over client server shut now late found = record { client = refl; server = refl }
+
+  -- Where something is found, what is left has the piece behind it, at any moment.
+  pub leaves_more : (stage : Stage) (v : Sight) (late : ℕ) → v.closed ≡ false → IsFound (look terms stage v) → LeavesMore stage (make v.client v.closed v.server v.shut late) piece
+  leaves_more stage v late open_client found =
+      let P : Bool → Type 0 = λ b. IsFound (look terms stage (make v.client b v.server v.shut v.now)) → LeavesMore stage (make v.client b v.server v.shut late) piece in
+      subst P (sym open_client) (leaves_by stage v.client v.server v.shut v.now late) found
+
   -- ---- and where it passes
 
+  -- the sight that is left where a request's body is awaited
+  abbrev past_body : At → Flow → Response → List ℕ → List ℕ → Bool → ℕ → Sight
+  past_body at flow response client server shut now = sight_past (busy at flow (request_body (Some response))) (make client false server shut now)
+
   pass_body_stays : (at : At) (flow : Flow) (response : Response) (client : List ℕ) (item later : Item ReadRequest) (server : List ℕ) (shut : Bool) (now : ℕ) →
-      request_item (drop at.used client) ≡ item → Stays item later →
-      IsFound (look terms (pass_body at flow (Some response) item now) (make client false server shut now)) →
-      pass_body at flow (Some response) later now ≡ pass_body at flow (Some response) item now
+      request_item client ≡ item → Stays item later →
+      IsFound (look terms (pass_body at flow (Some response) item now) (past_body at flow response client server shut now)) → later ≡ item
   pass_body_stays at flow response client missing later server shut now is stays found =
       let used : Used = server_parked at.parked (make client false server shut now) in
-      let P : Item ReadRequest → Type 0 = λ i. IsFound (or_leaves false (ends_early flow closed_message now used true) (look_body flow i now used false)) in
-      absurd (subst P is found)
+      let P : Item ReadRequest → Type 0 = λ i. IsFound (look terms (busy at flow (request_body (Some response))) (make (left_by i client) false server shut now)) in
+      let Q : Item ReadRequest → Type 0 = λ i. IsFound (or_leaves false (ends_early flow closed_message now used true) (look_body flow i now used false)) in
+      let there : P missing = subst P is found in
+      absurd (subst Q is there)
   pass_body_stays at flow response client (part head body) later server shut now is stays found =
       let used : Used = server_parked at.parked (make client false server shut now) in
-      let P : Item ReadRequest → Type 0 = λ i. IsFound (or_leaves false (ends_early flow closed_message now used true) (look_body flow i now used false)) in
-      absurd (subst P is found)
-  pass_body_stays at flow response client (complete head body trailers used) later server shut now is stays found =
-      ap (λ i. pass_body at flow (Some response) i now) (stays.decided refl)
-  pass_body_stays at flow response client (bad_head fault) later server shut now is stays found =
-      let used : Used = server_parked at.parked (make client false server shut now) in
-      let P : Item ReadRequest → Type 0 = λ i. IsFound (or_leaves false (ends_early flow closed_message now used true) (look_body flow i now used false)) in
-      absurd (subst P is found)
-  pass_body_stays at flow response client (bad_body fault head body) later server shut now is stays found =
-      ap (λ i. pass_body at flow (Some response) i now) (stays.decided refl)
+      let P : Item ReadRequest → Type 0 = λ i. IsFound (look terms (busy at flow (request_body (Some response))) (make (left_by i client) false server shut now)) in
+      let Q : Item ReadRequest → Type 0 = λ i. IsFound (or_leaves false (ends_early flow closed_message now used true) (look_body flow i now used false)) in
+      let there : P (part head body) = subst P is found in
+      absurd (subst Q is there)
+  pass_body_stays at flow response client (complete head body trailers used) later server shut now is stays found = stays.decided refl
+  pass_body_stays at flow response client (bad_head fault) later server shut now is stays found = stays.decided refl
+  pass_body_stays at flow response client (bad_body fault head body) later server shut now is stays found = stays.decided refl
 
-  pass_stays_by : (stage : Stage) (client server : List ℕ) (shut : Bool) (now : ℕ) →
-      IsFound (look terms (pass stage (make client false server shut now)) (make client false server shut now)) →
-      pass stage (hears (side_of stage) (make client false server shut now) piece) ≡ pass stage (make client false server shut now)
-  pass_stays_by (idle at) client server shut now found = refl
-  pass_stays_by (busy at flow (request_body None)) client server shut now found = refl
-  pass_stays_by (busy at flow (request_body (Some response))) client server shut now found =
-      pass_body_stays at flow response client (request_item (drop at.used client)) (request_item (drop at.used (client ++ piece_of Client piece))) server shut now refl
-      (request_stays readers at.used client (piece_of Client piece)) found
-  pass_stays_by (busy at flow connection) client server shut now found = refl
-  pass_stays_by (busy at flow (response_head own how)) client server shut now found = refl
-  pass_stays_by (busy at flow (response_body own how)) client server shut now found = refl
-  pass_stays_by (busy at flow (upgraded own)) client server shut now found = refl
-  pass_stays_by (busy at flow given_head) client server shut now found = refl
-  pass_stays_by (busy at flow given_body) client server shut now found = refl
-  pass_stays_by (next at) client server shut now found = refl
-  pass_stays_by over client server shut now found = refl
+  -- the request stays that is awaited where a response is given
+  passed_item : (at : At) (flow : Flow) (response : Response) (client server : List ℕ) (shut : Bool) (now : ℕ) →
+      IsFound (look terms (pass (busy at flow (request_body (Some response))) (make client false server shut now)) (past_body at flow response client server shut now)) →
+      request_item (client ++ piece_of Client piece) ≡ request_item client
+  passed_item at flow response client server shut now found =
+      pass_body_stays at flow response client (request_item client) (request_item (client ++ piece_of Client piece)) server shut now refl
+      (request_stays readers client (piece_of Client piece)) found
 
-  -- Where something is found behind passing, it passes with the piece as without it.
-  pub pass_stays : (stage : Stage) (v : Sight) → v.closed ≡ false → IsFound (look terms (pass stage v) v) → pass stage (hears (side_of stage) v piece) ≡ pass stage v
-  pass_stays stage v open_client found =
-      let P : Bool → Type 0 = λ b. IsFound (look terms (pass stage (make v.client b v.server v.shut v.now)) (make v.client b v.server v.shut v.now)) →
-      pass stage (hears (side_of stage) (make v.client b v.server v.shut v.now) piece) ≡ pass stage (make v.client b v.server v.shut v.now) in
-      subst P (sym open_client) (pass_stays_by stage v.client v.server v.shut v.now) found
+  -- what passing does with the piece is what it does without it
+  pub record PassesWith (stage : Stage) (v : Sight) : Type 0 where
+    pub stays : pass stage (hears (side_of stage) v piece) ≡ pass stage v
+    pub leaves : sight_past stage (hears (side_of stage) v piece) ≡ hears (side_of stage) (sight_past stage v) piece
+
+  passes_by : (stage : Stage) (client server : List ℕ) (shut : Bool) (now : ℕ) →
+      IsFound (look terms (pass stage (make client false server shut now)) (sight_past stage (make client false server shut now))) →
+      PassesWith stage (make client false server shut now)
+  passes_by (idle at) client server shut now found = record { stays = refl; leaves = refl }
+  passes_by (busy at flow (request_body None)) client server shut now found = record { stays = refl; leaves = refl }
+  passes_by (busy at flow (request_body (Some response))) client server shut now found =
+      let side : Option ℕ = side_parked at.parked in
+      let more = piece_of Client piece in
+      let same = passed_item at flow response client server shut now found in
+      record {
+        stays = ap (λ i. pass_body at flow (Some response) i now) same;
+        leaves = ap (λ l. make l false (server_with side shut server piece) (shut_with side shut piece) now)
+            (ap (λ i. left_by i (client ++ more)) same
+            ∙ left_more (request_item client) client more (λ head body trailers size is. (request_used chunk_laws client head body trailers size is).1));
+      }
+  passes_by (busy at flow connection) client server shut now found = record { stays = refl; leaves = refl }
+  passes_by (busy at flow (response_head own how)) client server shut now found = record { stays = refl; leaves = refl }
+  passes_by (busy at flow (response_body own how)) client server shut now found = record { stays = refl; leaves = refl }
+  passes_by (busy at flow (upgraded own)) client server shut now found = record { stays = refl; leaves = refl }
+  passes_by (busy at flow given_head) client server shut now found = record { stays = refl; leaves = refl }
+  passes_by (busy at flow given_body) client server shut now found = record { stays = refl; leaves = refl }
+  passes_by (next at) client server shut now found = record { stays = refl; leaves = refl }
+  passes_by over client server shut now found = record { stays = refl; leaves = refl }
+
+  -- Where something is found behind passing, it passes with the piece as without it, and leaves the piece.
+  pub passes_with : (stage : Stage) (v : Sight) → v.closed ≡ false → IsFound (look terms (pass stage v) (sight_past stage v)) → PassesWith stage v
+  passes_with stage v open_client found =
+      let P : Bool → Type 0 = λ b. IsFound (look terms (pass stage (make v.client b v.server v.shut v.now)) (sight_past stage (make v.client b v.server v.shut v.now))) →
+      PassesWith stage (make v.client b v.server v.shut v.now) in
+      subst P (sym open_client) (passes_by stage v.client v.server v.shut v.now) found

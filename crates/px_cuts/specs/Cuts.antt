@@ -12,7 +12,7 @@ use Rattle.px_event.specs.declared.side.Side.TheVariants.{Client, Server}
 use Rattle.px_event.specs.Chain.{later, Stamp, Stamped, Timed}
 use Rattle.px_event.specs.Trace.{is_same_side}
 use Rattle.px_chain.specs.Sights.{IsWithin, Standing}
-use Rattle.px_chain.specs.Stages.{ServerSide, Stage, over, place_of, side_of}
+use Rattle.px_chain.specs.Stages.{Stage, over, place_of, side_of}
 
 -- ---- the moments inside what is owed, each seen through a function
 
@@ -82,9 +82,9 @@ SameStreams these those = joined_pieces (values_of these) ≡ joined_pieces (val
 -- ---- where and when pieces come
 
 -- the side's server is among the first so many
-abbrev pub DialledBefore : Option ServerSide → ℕ → Type 0
+abbrev pub DialledBefore : Option ℕ → ℕ → Type 0
 DialledBefore None dials = ⊤
-DialledBefore (Some side) dials = side.server < dials
+DialledBefore (Some side) dials = side < dials
 
 -- The server was dialled by this stage. At the end it makes no difference.
 abbrev pub IsDialled : ℕ → Stage → Type 0

@@ -6,9 +6,9 @@ use Rattle.px_event.specs.declared.event.Event.{Event}
 use Rattle.px_event.specs.Chain.{Look, Timed}
 use Rattle.px_exchange.specs.declared.terms.Terms.{Terms}
 use Rattle.px_cuts.specs.Cuts.{retimed_flow}
-use Rattle.px_chain.specs.Chain.{behind, look, pass, so_far}
+use Rattle.px_chain.specs.Chain.{behind, look, passed, so_far}
 use Rattle.px_chain.specs.Sights.{Sight, Standing, sight_over, sight_with}
-use Rattle.px_chain.specs.Stages.{ServerSide, Stage, busy, idle, next, over}
+use Rattle.px_chain.specs.Stages.{Stage, busy, idle, next, over}
 
 -- the stage, its moments seen so
 abbrev pub retimed_stage : (ℕ → ℕ) → Stage → Stage
@@ -31,7 +31,7 @@ abbrev pub shown_sight : (ℕ → ℕ) → Stage → Sight → Sight
 shown_sight see stage seen = record seen { now = moment_at see stage seen.now }
 
 -- the sight with one event more, while the moment stays as it is
-abbrev pub hears : Option ServerSide → Sight → Event → Sight
+abbrev pub hears : Option ℕ → Sight → Event → Sight
 hears side seen event = sight_with side seen event seen.now
 
 -- ---- a place over a prefix: what it finds and owes, and what it passes to
@@ -50,4 +50,4 @@ abbrev pub shown_over : (ℕ → ℕ) → Standing → List (Timed Event) → Si
 shown_over see place prefix = shown_sight see place.stage (sight_over place prefix)
 
 abbrev pub passed_over : Standing → List (Timed Event) → Standing
-passed_over place prefix = record place { stage = pass place.stage (sight_over place prefix) }
+passed_over place prefix = passed place (sight_over place prefix)

@@ -1,39 +1,49 @@
 -- What a conversation of flows in sequence stands for: what its flow's machine does, on the chain whose finished flows lead to
 -- the next.
-use Rattle.std.proofs.Common.{List, Option}
+use Rattle.std.proofs.Common.{ℕ, List, Option}
+use Rattle.std.specs.Prelude.{◌-◌}
 use Rattle.px_event.specs.declared.ask.Ask.{Ask}
 use Rattle.px_event.specs.declared.command.Command.{Command}
 use Rattle.px_event.specs.declared.event.Event.{Event}
 use Rattle.px_event.specs.declared.reply.Reply.{Reply}
 use Rattle.px_event.specs.Chain.{Chain, Stop, Timed}
 use Rattle.px_event.specs.Laws.{Settles, SoFarGrows}
-use Rattle.px_event.specs.Layer.{Move, IsSound, Goes}
+use Rattle.px_event.specs.Layer.{Move, IsSound}
 use Rattle.px_event.specs.Stands.{StandsAt, AwaitsWhatItAsks, EndsWhereItEnds, stop_of}
 use Rattle.px_event.specs.View.{View, seen_of}
-use Rattle.px_chain.specs.Chain.{http_chain, sequence}
+use Rattle.px_chain.specs.Chain.{begin, http_chain, sequence}
 use Rattle.px_chain.proofs.ChainLaws.{settles, so_far_grows}
 use Rattle.px_chain.specs.Sights.{Sight, Standing, sight_over}
-use Rattle.px_stream.specs.Sequence.{IsInSequence, Stands, StandsInSequence, ahead_of, first_of}
-use Rattle.px_chain.specs.Stages.{Stage}
+use Rattle.px_stream.specs.Anywhere.{IsInSequence, Somewhere}
+use Rattle.px_chain.specs.Stages.{At, Stage, idle}
 use Rattle.px_stream.specs.Stands.{is_last}
 use Rattle.px_stream.specs.Stands as flows
-use Rattle.px_stream.specs.StateLaws.{awaits_what_it_asks, ends_where_it_ends}
+use Rattle.px_stream.proofs.StateLaws.{awaits_what_it_asks, ends_where_it_ends}
 use Rattle.px_http.specs.declared.conversation.HttpConv.{HttpConv}
 
--- what a state stands for
-abbrev pub HttpStands : HttpConv → HttpConv → List Move → List Command → Type 0
-HttpStands made state moves given = StandsInSequence made.stream state.stream moves given
-
-abbrev pub awaits : HttpConv → Option Ask
-awaits state = flows.awaits state.stream
-
--- the chain of a conversation that was made so, and where its walk over some moves stops
+-- the chain of a conversation that was made so: it starts at its first flow's head, and a side of its place is parked
 abbrev pub chain_of : HttpConv → Chain Standing Event Reply Command
 chain_of made = http_chain sequence made.stream.terms
 
 abbrev pub start_at : HttpConv → Standing
-start_at made = first_of made.stream
+start_at made = begin (idle made.stream.at)
 
+-- how many servers more than flows were there before it was made
+abbrev pub ahead_of : At → ℕ
+ahead_of at = at.dials - at.flow
+
+-- what the fields are, where a walk stopped
+abbrev pub is_there : HttpConv → HttpConv → Standing → List (Timed Event) → Type 0
+is_there made state place prefix = IsInSequence made.stream.terms (ahead_of made.stream.at) state.stream place prefix
+
+-- what a state stands for
+abbrev pub HttpStands : HttpConv → HttpConv → List Move → List Command → Type 0
+HttpStands made state moves given = StandsAt (chain_of made) (start_at made) (is_there made) state moves given
+
+abbrev pub awaits : HttpConv → Option Ask
+awaits state = flows.awaits state.stream
+
+-- where the walk over some moves stops
 abbrev pub stop_at : HttpConv → List Move → Stop Standing Event Reply Command
 stop_at made moves = stop_of (chain_of made) (start_at made) moves
 
@@ -43,13 +53,6 @@ stage_at made moves = (stop_at made moves).stage.stage
 
 abbrev pub seen_at : HttpConv → List Move → Sight
 seen_at made moves = sight_over (stop_at made moves).stage (stop_at made moves).prefix
-
--- what the fields are, where the walk stopped
-abbrev pub is_there : HttpConv → HttpConv → Standing → List (Timed Event) → Type 0
-is_there made state place prefix = IsInSequence made.stream.terms (ahead_of made.stream.numbers) state.stream place prefix
-
-pub stands_there : (made state : HttpConv) (moves : List Move) (given : List Command) → HttpStands made state moves given → StandsAt (chain_of made) (start_at made) (is_there made) state moves given
-stands_there made state moves given stands = record { place = stands.place; used = stands.used; seen = stands.seen; gave = stands.gave }
 
 pub settles_there : (made : HttpConv) → Settles (chain_of made)
 settles_there made = settles sequence made.stream.terms
@@ -73,18 +76,6 @@ ends_there made =
       there = λ state place prefix owed at is. law.there state.stream place prefix owed at.is_at is;
     }
 
--- ---- from the flow's machine to the conversation
-
--- it stands as a flow does, whose end leads to the next
-pub flow_stands : (made state : HttpConv) (moves : List Move) (given : List Command) → HttpStands made state moves given → Stands sequence made.stream state.stream moves given
-flow_stands made state moves given stands =
-    record { place = stands.place.is_at; used = stands.used; seen = stands.seen; gave = stands.gave }
-
--- what it stands for, its flow's machine does
-pub sound_within : (state : HttpConv) → IsSound HttpStands state → IsSound StandsInSequence state.stream
-sound_within state (made, past, given, stands) = (made.stream, past, given, stands)
-
--- and what the machine's call does, the conversation's does
-pub goes_as : (before after : HttpConv) (move : Move) (out longer : List Command) → Goes StandsInSequence before.stream after.stream move out longer → Goes HttpStands before after move out longer
-goes_as before after move out longer goes =
-    record { more = goes.more; grown = goes.grown; stands = λ made past given stands. goes.stands made.stream past given stands }
+-- it stands somewhere
+pub somewhere : (state : HttpConv) → IsSound HttpStands state → Somewhere state.stream
+somewhere state (made, past, given, stands) = (made.stream.terms, ahead_of made.stream.at, _, _, stands.place)

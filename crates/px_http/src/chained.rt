@@ -1,9 +1,8 @@
 //! What is due of a conversation is a chain of stages, and names this conversation alone.
 ghost use Rattle.px_http.specs.Names.{http_names, keeps_number};
-ghost use Rattle.px_http.specs.Stands.{asks_there, ends_there, grows_there, is_there, settles_there, stands_there};
+ghost use Rattle.px_http.specs.Stands.{asks_there, ends_there, grows_there, is_there, settles_there, start_at};
 ghost use Rattle.px_chain.specs.Chain.{http_chain, sequence};
 ghost use Rattle.px_chain.specs.Sights.{Standing};
-ghost use Rattle.px_stream.specs.Sequence.{first_of};
 
 use crate::HttpConv;
 use px_core::Numbered;
@@ -14,11 +13,11 @@ impl Chained for HttpConv {
 
     ghost chain = { λ made. http_chain sequence made.stream.terms };
 
-    ghost start = { λ made. first_of made.stream };
+    ghost start = { start_at };
 
     ghost is_at = { is_there };
 
-    ghost stands_at = { stands_there };
+    ghost stands_at = { λ made state moves given stands. stands };
 
     ghost settles = { settles_there };
 

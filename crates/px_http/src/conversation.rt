@@ -3,21 +3,18 @@ ghost use Rattle.std.specs.Prelude.{◌≡◌, ◌≤◌, ◌<◌, ◌+◌, List
 ghost use Rattle.px_event.specs.Layer.{AsksOnly, MayAnswer, Move};
 ghost use Rattle.px_event.specs.declared.command.Command.{Command as GivenCommand};
 ghost use Rattle.px_http.specs.Stands.{HttpStands, awaits, seen_at, stage_at};
-ghost use Rattle.px_chain.specs.Chain.{look};
+ghost use Rattle.px_chain.specs.Chain.{look, parked_of};
 ghost use Rattle.px_exchange.specs.Places.{terms_of};
 ghost use Rattle.px_stream.specs.Anywhere.{Begins, HearsWaiting, IsNew, Reaches, ResumesAnywhere, Somewhere, TakesAnywhere};
-ghost use Rattle.px_stream.specs.Left.{sequence_left};
-ghost use Rattle.px_stream.specs.Phases.{parked_at};
-ghost use Rattle.px_stream.specs.Rests.{LeavesRests, phase_flow, phase_rest};
-ghost use Rattle.px_stream.specs.Sequence.{IsSideBelow, asked_tunnel, is_end, open_parked, outcome_at, outcome_in, upgraded_side};
+ghost use Rattle.px_stream.specs.Rests.{LeavesRests};
 ghost use Rattle.px_stream.specs.Stands.{is_last};
-ghost use Rattle.px_stream.specs.Through.{IsDialling, dialled_flow, led_to};
+ghost use Rattle.px_stream.specs.Tells.{IsDialling, IsSideBelow, asked_tunnel, dialled_flow, is_end, led_to, open_parked, outcome_at, outcome_in, phase_flow, sequence_left, side_rest, upgraded_side, uses_side};
 
 use px_event::{Ask, Command, Event, Layer, Reply, Rests};
 use px_exchange::Boxed;
 use px_exchange::ending::Used;
 use px_message::{Address, Flow, FlowId};
-use px_stream::{Numbers, Outcome, Place, Stream};
+use px_stream::{At, Outcome, Place, Stream};
 use px_text::{Bytes, NoMemory};
 use std::alloc::Global;
 
@@ -40,24 +37,23 @@ impl HttpConv {
         place: Place,
         first_flow: u32,
         next_server: u32,
-    ) -> HttpConv
+    ) -> Result<HttpConv, NoMemory>
         requires few { first_flow < 1000000 }
         requires dials { next_server ≤ first_flow + 1 }
         requires side { IsSideBelow place next_server }
-        ensures stands { HttpStands result result [] [] }
-        ensures terms { result.stream.terms ≡ terms_of conv client place }
-        ensures numbers { result.stream.numbers ≡ record { flow = first_flow; server = next_server } }
-        ensures parked { result.stream.parked ≡ parked_at place }
-        ensures new { IsNew result.stream }
-        ensures free { awaits result ≡ None }
+        ensures stands { IfOk result (λ made. HttpStands made made [] []) }
+        ensures terms { IfOk result (λ made. made.stream.terms ≡ terms_of conv client place) }
+        ensures at { IfOk result (λ made. made.stream.at ≡ record { flow = first_flow; dials = next_server; parked = parked_of place }) }
+        ensures new { IfOk result (λ made. IsNew made.stream) }
+        ensures free { IfOk result (λ made. awaits made ≡ None) }
     {
         let id = FlowId {
             conv,
             index: first_flow,
         };
-        HttpConv {
-            stream: Stream::new(alloc, id, client, place, next_server),
-        }
+        Ok(HttpConv {
+            stream: Stream::new(alloc, id, client, place, next_server)?,
+        })
     }
 
     /// What became of the conversation: `Connects` where a CONNECT was read that asks for a tunnel, `Upgraded` where a response of
@@ -80,7 +76,7 @@ impl HttpConv {
 
     /// The server's side on which another protocol follows: exactly where the outcome is `Upgraded`.
     pub fn upgraded(&self) -> Option<Used>
-        ensures { result ≡ upgraded_side self.now.stream.phase }
+        ensures { result ≡ upgraded_side self.now.stream.phase self.now.stream.side }
     {
         self.stream.upgraded()
     }
@@ -92,11 +88,11 @@ impl HttpConv {
         self.stream.place()
     }
 
-    /// The numbers of the next flow and of the next server.
-    pub fn numbers(&self) -> Numbers
-        ensures { result ≡ self.now.stream.numbers }
+    /// The number of the present flow, or of the next one where none has begun, and of the next server.
+    pub fn at(&self) -> &At
+        ensures { result.now ≡ self.now.stream.at }
     {
-        self.stream.numbers()
+        self.stream.at()
     }
 
     /// Whether the client has closed.
@@ -108,7 +104,7 @@ impl HttpConv {
 
     /// The number of the parked side, which is connected and which no flow uses, if there is one and its server has not closed.
     pub fn parked(&self) -> Option<u32>
-        ensures { result ≡ open_parked self.now.stream.parked }
+        ensures { result ≡ open_parked self.now.stream.at.parked self.now.stream.side }
     {
         self.stream.parked()
     }
@@ -146,7 +142,7 @@ impl HttpConv {
         ensures asks { OnOk result (AsksOnly (awaits self.new) out.old.items out.new.items) }
         ensures left { OnOk result (sequence_left self.new.stream ≤ sequence_left self.old.stream) }
     {
-        self.stream.take_anywhere(moment, event, out)
+        self.stream.take_anywhere(moment, &event, out)
     }
 
     /// Takes the reply to what is awaited as `resume`, wherever in a longer chain it stands that flows in sequence are a part of.
@@ -180,7 +176,7 @@ impl HttpConv {
         requires somewhere { Somewhere self.old.stream }
         ensures hears { OnOk result (HearsWaiting self.old.stream self.new.stream event.now) }
         ensures phase { OnOk result (self.new.stream.phase ≡ self.old.stream.phase) }
-        ensures numbers { OnOk result (self.new.stream.numbers ≡ self.old.stream.numbers) }
+        ensures at { OnOk result (self.new.stream.at ≡ self.old.stream.at) }
         ensures terms { OnOk result (self.new.stream.terms ≡ self.old.stream.terms) }
         ensures left { OnOk result (sequence_left self.new.stream ≡ sequence_left self.old.stream) }
     {
@@ -211,7 +207,7 @@ impl HttpConv {
     /// while one is read, those from where its reader stands. Of the server there are none where the flow has no side of it.
     pub fn into_rests(self) -> Result<(Rests, Option<Flow>), NoMemory>
         ensures client { IfOk result (λ left. left.0.client ≡ self.stream.requests.rest) }
-        ensures server { IfOk result (λ left. left.0.server ≡ phase_rest self.stream.phase) }
+        ensures server { IfOk result (λ left. left.0.server ≡ side_rest (uses_side self.stream.phase) self.stream.side) }
         ensures flow { IfOk result (λ left. left.1 ≡ phase_flow self.stream.phase) }
         ensures behind { (made : HttpConv) (moves : List Move) (given : List GivenCommand) → HttpStands made self moves given →
             IfOk result (λ left. LeavesRests made.stream.terms.place (look made.stream.terms (stage_at made moves) (seen_at made moves)) (stage_at made moves)
@@ -231,9 +227,8 @@ impl HttpConv {
 impl Layer for HttpConv {
     ghost use Rattle.std.specs.Prelude.{ℕ, List};
     ghost use Rattle.px_http.specs.Stands.{HttpStands, awaits};
-    ghost use Rattle.px_stream.specs.Kept.{stream_keeps};
-    ghost use Rattle.px_stream.specs.Left.{sequence_left};
     ghost use Rattle.px_stream.specs.Stands.{is_last};
+    ghost use Rattle.px_stream.specs.Tells.{sequence_left, stream_keeps};
 
     ghost stands = { HttpStands };
 
@@ -248,7 +243,7 @@ impl Layer for HttpConv {
     ghost ended = { λ state. is_last state.stream.phase };
 
     fn take(&mut self, moment: u64, event: Event, out: &mut Vec<Command>) -> Result<(), NoMemory> {
-        self.stream.take_in_sequence(moment, event, out)
+        self.stream.take_anywhere(moment, &event, out)
     }
 
     fn resume(
@@ -257,7 +252,7 @@ impl Layer for HttpConv {
         reply: Reply,
         out: &mut Vec<Command>,
     ) -> Result<(), NoMemory> {
-        self.stream.resume_in_sequence(moment, reply, out)
+        self.stream.resume_anywhere(moment, reply, out)
     }
 
     fn waiting(&self) -> Option<Ask> {

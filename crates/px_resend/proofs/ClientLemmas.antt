@@ -22,13 +22,13 @@ use Rattle.px_exchange.specs.Endings.{shut_server}
 use Rattle.px_exchange.specs.Replies.{taken_at_request_head, taken_at_request_body}
 use Rattle.px_chain.specs.Chain.{look as look_of}
 use Rattle.px_chain.specs.Sights.{Sight, server_in, sight_over}
-use Rattle.px_chain.specs.Stages.{busy, connection, given_body, given_head, idle, next, request_body, response_body, response_head, upgraded}
 use Rattle.px_chain.specs.Stages as flows
 use Rattle.px_chain.proofs.Quiet.{IsAskOf, LooksQuiet, any_flow}
 use Rattle.px_chain.proofs.QuietLemmas.{finds_quiet_end}
 use Rattle.px_resend.specs.Chain.{Stage, asks_head, asks_whole, flows_of, goes_on, look_by, over, pass, resend_chain, terms_by, to_servers_in, turn_head, turn_whole, waiting}
 use Rattle.px_resend.specs.Dialled.{AllFinish}
 use Rattle.px_resend.specs.Due.{resend_due}
+use Rattle.px_resend.specs.Found.{found_by}
 use Rattle.px_resend.specs.Heard.{all_of_servers, is_to_client, to_servers}
 
 -- a command by which nothing is said to a client
@@ -73,16 +73,9 @@ flow_others : (terms : Terms) (stage : flows.Stage) (seen : Sight) → AreOthers
 flow_others terms stage seen = look_others (look_of terms stage seen) (finds_quiet_end terms stage seen)
 
 found_others : (terms : Terms) (stage : flows.Stage) (seen : Sight) → AreOthers (found (look_by stage seen (look_of terms stage seen)))
-found_others terms (idle at) seen = tt
-found_others terms (busy at flow (request_body given)) seen = flow_others terms (busy at flow (request_body given)) seen
-found_others terms (busy at flow connection) seen = flow_others terms (busy at flow connection) seen
-found_others terms (busy at flow (response_head side how)) seen = flow_others terms (busy at flow (response_head side how)) seen
-found_others terms (busy at flow (response_body side how)) seen = flow_others terms (busy at flow (response_body side how)) seen
-found_others terms (busy at flow (upgraded side)) seen = (refl, shut_others (server_in side seen))
-found_others terms (busy at flow given_head) seen = flow_others terms (busy at flow given_head) seen
-found_others terms (busy at flow given_body) seen = flow_others terms (busy at flow given_body) seen
-found_others terms (next at) seen = tt
-found_others terms flows.over seen = tt
+found_others terms stage seen =
+    let P : Look Command → Type 0 = λ k. AreOthers (found k) in
+    found_by P stage seen (look_of terms stage seen) (λ at is. tt) (λ at flow server is. (refl, shut_others (server_in server seen))) (flow_others terms stage seen)
 
 head_others : (recorded : Request) (flow : Flow) (prefix : List (Timed Event)) (moment : ℕ) (taken : Taken Request) → AreOthers (turn_head recorded flow prefix moment taken).owed
 head_others recorded flow prefix moment (GoesOn request) = tt

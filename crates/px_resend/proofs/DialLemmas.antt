@@ -1,5 +1,5 @@
 -- A request that is sent again dials one server at most, and it is server 0.
-use Rattle.std.proofs.Common.{◌≡◌, ℕ, ◌<◌, ◌≤◌, Bool, true, false, List, [], ◌∷◌, ◌++◌, Option, Some, None, inl, inr, refl, sym, ap, ◌∙◌, subst, arith}
+use Rattle.std.proofs.Common.{◌≡◌, ℕ, ◌≤◌, Bool, true, false, List, [], ◌∷◌, ◌++◌, Option, Some, None, inl, inr, refl, sym, ap, ◌∙◌, subst, arith}
 use Rattle.std.specs.Prelude.{⊤, not, if◌then◌else◌}
 use Rattle.std.proofs.lemmas.List.{append-nil}
 use Rattle.std.proofs.lemmas.Grind.{flat_map-append}
@@ -25,28 +25,31 @@ use Rattle.px_exchange.specs.declared.terms.Terms.{Terms}
 use Rattle.px_exchange.specs.Finds.{is_relayed, look_answer, look_answer_head, look_returned, or_leaves}
 use Rattle.px_exchange.specs.Flows.{ask_of}
 use Rattle.px_exchange.specs.Replies.{taken_at_request_head, taken_at_request_body}
-use Rattle.px_chain.specs.Chain.{look as look_of, pass as pass_of, sequence, turn as turn_of}
+use Rattle.px_chain.specs.Chain.{look as look_of, sequence, turn as turn_of}
 use Rattle.px_chain.specs.Left.{stage_left}
 use Rattle.px_chain.specs.Sights.{Sight, answers_in, server_in, sight_over}
-use Rattle.px_chain.specs.Stages.{busy, connection, given_body, given_head, idle, next, request_body, response_body, response_head, upgraded}
+use Rattle.px_chain.specs.Stages.{At, busy, connection, given_body, given_head, idle, next, request_body, response_body, response_head, upgraded}
 use Rattle.px_chain.specs.Stages as flows
-use Rattle.px_chain.proofs.Quiet.{AllQuiet, IsBehind, LooksQuiet, any_flow}
+use Rattle.px_chain.proofs.Quiet.{AllQuiet, LooksQuiet, any_flow}
 use Rattle.px_chain.proofs.QuietLemmas.{IsGoing, turn_behind, turn_quiet}
-use Rattle.px_stream.specs.GoingOn.{doing_by}
+use Rattle.px_stream.specs.Anywhere.{doing_by}
 use Rattle.px_resend.specs.Chain.{Stage, asks_head, asks_whole, first_at, goes_on, look_by, over, pass, resend_chain, terms_by, to_servers_in, turn_head, turn_whole, waiting}
 use Rattle.px_resend.specs.Dialled.{IsFirstAlone, dial_in, dials_in}
 use Rattle.px_resend.specs.Due.{resend_due}
 use Rattle.px_resend.specs.Heard.{all_of_servers, to_servers}
-use Rattle.px_resend.proofs.OwedLemmas.{asked_there, found_quiet, quiet_left}
+use Rattle.px_resend.specs.Stands.{ByDial}
+use Rattle.px_resend.proofs.BehindDial.{IsBehindDial, by_dial, led_by, passed_by, past}
+use Rattle.px_resend.proofs.OwedLemmas.{asked_there, busy_goes, found_quiet, quiet_left}
 use Rattle.px_event.proofs.Kept.{KeepsSteps, due_kept}
 
 -- ---- which servers were dialled before a stage
 
--- none before the dial, and one at most behind it
+-- none before the dial, whose server is 0, and one at most behind it
+abbrev IsFirst : List ℕ → At → Type 0
+IsFirst servers at = (servers ≡ []) × (at.dials ≡ 0)
+
 abbrev DialledFor : flows.Stage → List ℕ → Type 0
-DialledFor (busy at flow (request_body given)) servers = ⊥
-DialledFor (busy at flow connection) servers = (servers ≡ []) × (at.dials ≡ 0)
-DialledFor stage servers = IsFirstAlone servers
+DialledFor stage servers = ByDial (IsFirst servers) (IsFirstAlone servers) stage
 
 abbrev DialledBefore : Stage → List ℕ → Type 0
 DialledBefore (goes_on place) servers = DialledFor place.stage servers
@@ -128,21 +131,15 @@ found_none NotYet not_one quiet = refl
 found_none (Asks ask) not_one quiet = not_one
 found_none (Ends owed) not_one quiet = quiet_dials owed quiet
 
--- a stage whose flow goes on, behind its dial
-abbrev IsBehindDial : flows.Stage → Type 0
-IsBehindDial (busy at flow (request_body given)) = ⊥
-IsBehindDial (busy at flow connection) = ⊥
-IsBehindDial stage = ⊤
-
 module _ (terms : Terms) where
   asks_no_dial : (stage : flows.Stage) (seen : Sight) → IsBehindDial stage → AsksNoDial (look_by stage seen (look_of terms stage seen))
   asks_no_dial (idle at) seen is = tt
   asks_no_dial (busy at flow (request_body given)) seen is = absurd is
   asks_no_dial (busy at flow connection) seen is = absurd is
   asks_no_dial (busy at flow (response_head side how)) seen is =
-      left_not _ (leaves_not seen.closed _ _ (answer_not flow (answers_in flow.request side seen).final seen.now (server_in side seen) seen.closed))
+      left_not _ (leaves_not seen.closed _ _ (answer_not flow (answers_in flow.request seen).final seen.now (server_in side seen) seen.closed))
   asks_no_dial (busy at flow (response_body side how)) seen is =
-      left_not _ (leaves_not seen.closed _ _ (returned_not flow (answers_in flow.request side seen).final seen.now (server_in side seen) seen.closed))
+      left_not _ (leaves_not seen.closed _ _ (returned_not flow (answers_in flow.request seen).final seen.now (server_in side seen) seen.closed))
   asks_no_dial (busy at flow (upgraded side)) seen is = tt
   asks_no_dial (busy at flow given_head) seen is = refl
   asks_no_dial (busy at flow given_body) seen is = refl
@@ -153,31 +150,6 @@ module _ (terms : Terms) where
   no_dial stage seen is = found_none _ (asks_no_dial stage seen is) (found_quiet terms stage seen)
 
 -- ---- where a stage leads
-
-passed : (stage : flows.Stage) (seen : Sight) (servers : List ℕ) → DialledFor stage servers → DialledFor (pass_of stage seen) servers
-passed (idle at) seen servers is = is
-passed (busy at flow (request_body given)) seen servers is = absurd is
-passed (busy at flow connection) seen servers is = is
-passed (busy at flow (response_head side how)) seen servers is = is
-passed (busy at flow (response_body side how)) seen servers is = is
-passed (busy at flow (upgraded side)) seen servers is = is
-passed (busy at flow given_head) seen servers is = is
-passed (busy at flow given_body) seen servers is = is
-passed (next at) seen servers is = is
-passed flows.over seen servers is = is
-
--- Behind a stage that may ask three things more at most, nothing is dialled.
-led_on : (flow_now dials count : ℕ) (stage : flows.Stage) (servers : List ℕ) → IsBehind flow_now dials count stage → count ≤ 3 → IsFirstAlone servers → DialledFor (sequence stage) servers
-led_on flow_now dials count (idle at) servers behind few is = is
-led_on flow_now dials count (busy at flow (request_body given)) servers behind few is = let more : 4 < count = behind.1 in absurd (let no : ⊥ = omega arith in no)
-led_on flow_now dials count (busy at flow connection) servers behind few is = let more : 3 < count = behind.1 in absurd (let no : ⊥ = omega arith in no)
-led_on flow_now dials count (busy at flow (response_head side how)) servers behind few is = is
-led_on flow_now dials count (busy at flow (response_body side how)) servers behind few is = is
-led_on flow_now dials count (busy at flow (upgraded side)) servers behind few is = is
-led_on flow_now dials count (busy at flow given_head) servers behind few is = is
-led_on flow_now dials count (busy at flow given_body) servers behind few is = is
-led_on flow_now dials count (next at) servers behind few is = is
-led_on flow_now dials count flows.over servers behind few is = is
 
 -- a flow that goes on from the request's hooks
 goes_first : (given : Option Response) (flow : Flow) (servers : List ℕ) → servers ≡ [] → DialledFor (busy first_at flow (doing_by given)) servers
@@ -202,16 +174,16 @@ whole_leads servers none flow prefix moment (Responds response) = record { quiet
 whole_leads servers none flow prefix moment Kills = record { quiet = refl; leads = inl none }
 
 -- what is asked and what its answer brings, behind what was owed before
-led_by : (before : List Command) (asking : List ℕ) (ask : Command) (turned : Turn Stage Command) → dials_in (ask ∷ []) ≡ asking → LeadsTo (dials_in before ++ asking) turned →
+answered_by : (before : List Command) (asking : List ℕ) (ask : Command) (turned : Turn Stage Command) → dials_in (ask ∷ []) ≡ asking → LeadsTo (dials_in before ++ asking) turned →
     Kept (before ++ (ask ∷ turned.owed)) turned.stage
-led_by before asking ask turned one led =
+answered_by before asking ask turned one led =
     let P : List ℕ → Type 0 = DialledBefore turned.stage in
     subst P (sym (more_dials before (ask ∷ turned.owed) asking (ask_dials ask turned.owed asking one led.quiet))) led.leads
 
 -- an ask that dials nothing
 led_quietly : (before : List Command) (ask : Command) (turned : Turn Stage Command) → dials_in (ask ∷ []) ≡ [] → LeadsTo (dials_in before) turned → Kept (before ++ (ask ∷ turned.owed)) turned.stage
 led_quietly before ask turned none led =
-    let P : List ℕ → Type 0 = λ l. LeadsTo l turned in led_by before [] ask turned none (subst P (sym (append-nil (dials_in before))) led)
+    let P : List ℕ → Type 0 = λ l. LeadsTo l turned in answered_by before [] ask turned none (subst P (sym (append-nil (dials_in before))) led)
 
 -- nothing more is dialled
 stops_quietly : (before more : List Command) → dials_in more ≡ [] → IsFirstAlone (dials_in before) → Holds (before ++ more)
@@ -229,7 +201,8 @@ module _ (terms : Terms) (recorded : Request) where
   passes before waiting (event ∷ prefix) kept = kept
   passes before (asks_head flow) prefix kept = kept
   passes before (asks_whole flow) prefix kept = kept
-  passes before (goes_on place) prefix kept = passed place.stage (sight_over place (all_of_servers prefix)) (dials_in before) kept
+  passes before (goes_on place) prefix kept =
+      passed_by (IsFirst (dials_in before)) (IsFirstAlone (dials_in before)) place.stage (sight_over place (all_of_servers prefix)) kept
   passes before over prefix kept = kept
 
   owes_none : (stage : Stage) (prefix : List (Timed Event)) → (pass terms recorded stage prefix).owed ≡ []
@@ -251,7 +224,7 @@ module _ (terms : Terms) (recorded : Request) where
       (dials_in (to_servers (turn_of terms stage seen answer).owed) ≡ []) × DialledFor (sequence (turn_of terms stage seen answer).stage) servers
   flow_leads servers stage seen answer is few goes = (
     quiet_dials (to_servers (turn_of terms stage seen answer).owed) (quiet_left any_flow (turn_of terms stage seen answer).owed (turn_quiet terms stage seen answer)),
-    led_on _ _ (stage_left stage) (turn_of terms stage seen answer).stage servers (turn_behind terms stage seen answer goes) few is,
+    led_by (IsFirst servers) (IsFirstAlone servers) _ _ (stage_left stage) (turn_of terms stage seen answer).stage (turn_behind terms stage seen answer goes) few is,
   )
 
   -- behind its dial it asks none
@@ -269,20 +242,16 @@ module _ (terms : Terms) (recorded : Request) where
   flow_asked : (servers : List ℕ) (stage : flows.Stage) (seen : Sight) (ask : Command) (answer : Timed Reply) → DialledFor stage servers →
       look_by stage seen (look_of terms stage seen) ≡ Asks ask →
       (asking : List ℕ) × (dials_in (ask ∷ []) ≡ asking) × DialledFor (sequence (turn_of terms stage seen answer).stage) (servers ++ asking)
-  flow_asked servers (idle at) seen ask answer is asked = absurd (asked_there terms (idle at) seen ask asked).0
-  flow_asked servers (busy at flow (request_body given)) seen ask answer is asked = absurd is
-  flow_asked servers (busy at flow connection) seen ask answer is asked = (
-    at.dials ∷ [],
-    dials_of _ ask (at.dials ∷ []) refl asked,
-    (flow_leads (servers ++ (at.dials ∷ [])) (busy at flow connection) seen answer (first_alone servers at.dials is.0 is.1) (omega arith) tt).1,
-  )
-  flow_asked servers (busy at flow (response_head side how)) seen ask answer is asked = behind_dial servers (busy at flow (response_head side how)) seen ask answer tt is (omega arith) tt asked
-  flow_asked servers (busy at flow (response_body side how)) seen ask answer is asked = behind_dial servers (busy at flow (response_body side how)) seen ask answer tt is (omega arith) tt asked
-  flow_asked servers (busy at flow (upgraded side)) seen ask answer is asked = behind_dial servers (busy at flow (upgraded side)) seen ask answer tt is (omega arith) tt asked
-  flow_asked servers (busy at flow given_head) seen ask answer is asked = behind_dial servers (busy at flow given_head) seen ask answer tt is (omega arith) tt asked
-  flow_asked servers (busy at flow given_body) seen ask answer is asked = behind_dial servers (busy at flow given_body) seen ask answer tt is (omega arith) tt asked
-  flow_asked servers (next at) seen ask answer is asked = absurd (asked_there terms (next at) seen ask asked).0
-  flow_asked servers flows.over seen ask answer is asked = absurd (asked_there terms flows.over seen ask asked).0
+  flow_asked servers stage seen ask answer is asked =
+      let P : flows.Stage → Type 0 = λ s. look_by s seen (look_of terms s seen) ≡ Asks ask →
+      (asking : List ℕ) × (dials_in (ask ∷ []) ≡ asking) × DialledFor (sequence (turn_of terms s seen answer).stage) (servers ++ asking) in
+      by_dial (IsFirst servers) (IsFirstAlone servers) P stage is (λ at flow first asks. (
+        at.dials ∷ [],
+        dials_of _ ask (at.dials ∷ []) refl asks,
+        (flow_leads (servers ++ (at.dials ∷ [])) (busy at flow connection) seen answer (first_alone servers at.dials first.0 first.1) (omega arith) tt).1,
+      )) (λ behind one asks.
+      let goes = (asked_there terms stage seen ask asks).0 in
+      behind_dial servers stage seen ask answer behind one ((past stage behind).few goes) (busy_goes stage goes) asks) asked
 
   turns : (before : List Command) (stage : Stage) (prefix : List (Timed Event)) (ask : Command) (answer : Timed Reply) → Kept before stage → (resend_chain terms recorded).look stage prefix ≡ Asks ask →
       Kept (before ++ (ask ∷ ((resend_chain terms recorded).turn stage prefix answer).owed)) ((resend_chain terms recorded).turn stage prefix answer).stage
@@ -297,23 +266,19 @@ module _ (terms : Terms) (recorded : Request) where
       let seen : Sight = sight_over place (all_of_servers prefix) in
       let there = flow_asked (dials_in before) place.stage seen ask answer kept asked in
       let quiet = quiet_dials (to_servers (turn_of terms place.stage seen answer).owed) (quiet_left any_flow (turn_of terms place.stage seen answer).owed (turn_quiet terms place.stage seen answer)) in
-      led_by before there.0 ask ((resend_chain terms recorded).turn (goes_on place) prefix answer) there.1 (record { quiet = quiet; leads = there.2 })
+      answered_by before there.0 ask ((resend_chain terms recorded).turn (goes_on place) prefix answer) there.1 (record { quiet = quiet; leads = there.2 })
   turns before over prefix ask answer kept asked = absurd (let no : Ends [] ≡ Asks ask = asked in cc)
 
   -- where it stops
   flow_stops : (before : List Command) (stage : flows.Stage) (seen : Sight) → DialledFor stage (dials_in before) → Holds (before ++ found (look_by stage seen (look_of terms stage seen)))
-  flow_stops before (idle at) seen is = stops_quietly before [] refl is
-  flow_stops before (busy at flow (request_body given)) seen is = absurd is
-  flow_stops before (busy at flow connection) seen is =
-      let P : List ℕ → Type 0 = IsFirstAlone in
-      subst P (sym (more_dials before (found (look_by (busy at flow connection) seen (look_of terms (busy at flow connection) seen))) (at.dials ∷ []) refl)) (first_alone (dials_in before) at.dials is.0 is.1)
-  flow_stops before (busy at flow (response_head side how)) seen is = stops_quietly before _ (no_dial terms (busy at flow (response_head side how)) seen tt) is
-  flow_stops before (busy at flow (response_body side how)) seen is = stops_quietly before _ (no_dial terms (busy at flow (response_body side how)) seen tt) is
-  flow_stops before (busy at flow (upgraded side)) seen is = stops_quietly before _ (no_dial terms (busy at flow (upgraded side)) seen tt) is
-  flow_stops before (busy at flow given_head) seen is = stops_quietly before _ (no_dial terms (busy at flow given_head) seen tt) is
-  flow_stops before (busy at flow given_body) seen is = stops_quietly before _ (no_dial terms (busy at flow given_body) seen tt) is
-  flow_stops before (next at) seen is = stops_quietly before [] refl is
-  flow_stops before flows.over seen is = stops_quietly before [] refl is
+  flow_stops before stage seen is =
+      let first = dials_in before in
+      let P : flows.Stage → Type 0 = λ s. Holds (before ++ found (look_by s seen (look_of terms s seen))) in
+      let Q : List ℕ → Type 0 = IsFirstAlone in
+      by_dial (IsFirst first) (IsFirstAlone first) P stage is
+      (λ at flow one. subst Q (sym (more_dials before (found (look_by (busy at flow connection) seen (look_of terms (busy at flow connection) seen))) (at.dials ∷ []) refl))
+      (first_alone first at.dials one.0 one.1))
+      (λ behind one. stops_quietly before _ (no_dial terms stage seen behind) one)
 
   stops : (before : List Command) (stage : Stage) (prefix : List (Timed Event)) → Kept before stage → Holds (before ++ found ((resend_chain terms recorded).look stage prefix))
   stops before waiting prefix kept = stops_quietly before [] refl (inl kept)

@@ -10,11 +10,11 @@ use Rattle.px_message.specs.declared.request.Request.{Request}
 use Rattle.px_event.specs.declared.command.Command.{Command}
 use Rattle.px_event.specs.declared.command.Command.TheVariants as commands
 use Rattle.px_event.specs.declared.event.Event.{Event}
+use Rattle.px_event.specs.declared.side.Side.TheVariants.{Client}
 use Rattle.px_event.specs.Chain.{Timed, Look, NotYet, Asks, Ends, found}
 use Rattle.px_event.specs.Layer.{asks_in}
 use Rattle.px_event.specs.View.{View, seen_of}
 use Rattle.px_read.specs.Items.{missing, request_item}
-use Rattle.px_read.specs.Reader.{State}
 use Rattle.px_exchange.specs.declared.ending.Used.{Used}
 use Rattle.px_exchange.specs.declared.ending.Used.TheVariants.{NoServer, ByServer}
 use Rattle.px_exchange.specs.declared.outcome.Outcome.{Outcome}
@@ -23,25 +23,29 @@ use Rattle.px_exchange.specs.declared.terms.Terms.{Terms}
 use Rattle.px_exchange.specs.Endings.{shut_server}
 use Rattle.px_exchange.specs.Finds.{look_head, or_leaves}
 use Rattle.px_chain.specs.Chain.{look}
-use Rattle.px_chain.specs.Sights.{Sight, Standing, request_in, server_parked, sight_over}
-use Rattle.px_chain.specs.Stages.{At, busy, connection, given_body, given_head, idle, next, request_body, response_body, response_head, upgraded}
+use Rattle.px_chain.specs.Sights.{Sight, Standing, request_in, server_in, server_parked, sight_over}
+use Rattle.px_chain.specs.Stages.{At, all_sent, busy, connection, given_body, given_head, idle, next, request_body, response_body, response_head, upgraded}
 use Rattle.px_chain.specs.Stages as flows
+use Rattle.px_chain.specs.Streams.{bytes_of}
 use Rattle.px_chain.proofs.Quiet.{IsAskOf, LooksQuiet, any_flow}
 use Rattle.px_chain.proofs.QuietLemmas.{finds_quiet_end}
+use Rattle.px_stream.specs.declared.link.Link.{Link}
+use Rattle.px_stream.specs.declared.phase.Asked.{Asked}
 use Rattle.px_stream.specs.declared.phase.Phase.{Phase}
 use Rattle.px_stream.specs.declared.phase.Phase.TheVariants as phase
+use Rattle.px_stream.specs.declared.phase.Wanted.{Wanted}
 use Rattle.px_stream.specs.declared.phase.Wanted.TheVariants as ready
 use Rattle.px_stream.specs.declared.stream.Stream.{Stream}
-use Rattle.px_stream.specs.Left.{sequence_left}
-use Rattle.px_stream.specs.Rests.{phase_flow}
-use Rattle.px_stream.specs.Sequence.{IsInSequence, is_idle, outcome_in, upgraded_side}
-use Rattle.px_stream.specs.Stands.{PhaseAt, awaited_in}
+use Rattle.px_stream.specs.Tells.{is_idle, outcome_in, phase_flow, sequence_left, upgraded_side}
+use Rattle.px_stream.specs.Anywhere.{IsInSequence}
+use Rattle.px_stream.specs.Stands.{IsLast, IsOpen, LinkKeeps, PhaseAt, awaited_in, stage_of, used_in}
 use Rattle.px_resend.specs.declared.child.Child.{Child}
 use Rattle.px_resend.specs.declared.child.Child.TheVariants as children
 use Rattle.px_resend.specs.Chain.{flows_of, goes_on, look_by, resend_chain}
+use Rattle.px_resend.specs.Found.{found_by}
 use Rattle.px_resend.specs.Heard.{all_of_servers, to_servers}
 use Rattle.px_resend.specs.Kept.{awaited_by, left_by}
-use Rattle.px_resend.specs.Stands.{IsChild, KeepsBy}
+use Rattle.px_resend.specs.Stands.{IsChild, IsUnparked, KeepsBy}
 use Rattle.px_resend.specs.Steps.{Follows, FollowsAs, done_by, finished_by, shut_by}
 use Rattle.px_resend.proofs.HeardLemmas.{never_closed, no_bytes}
 
@@ -54,7 +58,7 @@ waits_by true owed is = absurd (let no : true ≡ false = is in cc)
 pub idle_waits : (terms : Terms) (at : At) (seen : Sight) → seen.client ≡ [] → seen.closed ≡ false → look terms (idle at) seen ≡ NotYet
 idle_waits terms at seen none unclosed =
     let empty : request_item [] ≡ missing = refl in
-    let item : request_in at seen ≡ missing = ap (λ bytes. request_item (drop at.used bytes)) none ∙ (ap (λ bytes. request_item bytes) (drop-nil at.used) ∙ empty) in
+    let item : request_in seen ≡ missing = ap request_item none ∙ empty in
     let parked : Used = server_parked at.parked seen in
     ap (λ i. or_leaves seen.closed (shut_server parked) (look_head terms at.flow i seen.now parked seen.closed)) item ∙ waits_by seen.closed (shut_server parked) unclosed
 
@@ -63,6 +67,17 @@ ends_at_once : (closed : Bool) (l : Look Command) → or_leaves closed [] (Ends 
 ends_at_once true l is = sym is
 ends_at_once false l is = sym is
 
+never_waits : (closed : Bool) → or_leaves closed [] (Ends []) ≡ NotYet → ⊥
+never_waits closed is = let no : NotYet ≡ Ends [] = ends_at_once closed NotYet is in cc
+
+never_asks : (closed : Bool) (ask : Command) → or_leaves closed [] (Ends []) ≡ Asks ask → ⊥
+never_asks closed ask is = let no : Asks ask ≡ Ends [] = ends_at_once closed (Asks ask) is in cc
+
+-- the server's side that is open
+used_open : (server : ℕ) (bytes : List ℕ) (shut : Bool) (side : Option Link) → IsOpen (LinkKeeps server bytes shut) side → used_in side ≡ ByServer server shut
+used_open server bytes shut None keeps = absurd keeps
+used_open server bytes shut (Some link) keeps = ap (λ n. ByServer n link.closed) keeps.server ∙ ap (ByServer server) keeps.closed
+
 -- what is asked is said to no client
 asked_of_none : (ask : Command) → IsAskOf any_flow ask → to_servers (ask ∷ []) ≡ ask ∷ []
 asked_of_none (commands.Send side text) is = absurd is
@@ -70,6 +85,10 @@ asked_of_none (commands.Close side) is = absurd is
 asked_of_none (commands.Dial server address inside) is = refl
 asked_of_none (commands.Ask ask flow) is = refl
 asked_of_none (commands.Done flow) is = absurd is
+
+-- behind what is used nothing stands
+unsent : (used : ℕ) (prefix : List (Timed Event)) → drop used (bytes_of Client (all_of_servers prefix)) ≡ []
+unsent used prefix = ap (drop used) (no_bytes prefix) ∙ drop-nil used
 
 -- ---- what is kept, and what is owed
 
@@ -83,13 +102,13 @@ module _ (terms : Terms) (recorded : Request) (boxed : Box Stream) (next_child :
   abbrev Leads : Phase → Type 0
   Leads found = FollowsAs (is_idle found) (outcome_in found) boxed next_child more
 
-  module _ (at : IsInSequence terms 0 boxed.value place (all_of_servers prefix)) (seen : Sight) where
+  module _ (at : IsInSequence terms 0 boxed.value place (all_of_servers prefix)) (unparked : IsUnparked place.stage) (seen : Sight) where
     -- it waits still
     waits_on : (stage : flows.Stage) → look_by stage seen NotYet ≡ NotYet → (next_child ≡ children.GoesOn boxed) × (more ≡ []) → FollowsBy stage seen NotYet
     waits_on stage is (same, none) =
         let P : Look Command → Type 0 = λ l. KeepsBy l terms next_child (goes_on place) prefix in
         record {
-          keeps = subst P (sym is) (record { stream = boxed; is = same; there = at });
+          keeps = subst P (sym is) (record { stream = boxed; is = same; there = at; unparked = unparked });
           gives = λ view. ap (seen_of view) none ∙ ap (λ l. seen_of view (found l)) (sym is);
         }
 
@@ -98,7 +117,7 @@ module _ (terms : Terms) (recorded : Request) (boxed : Box Stream) (next_child :
     asks_on stage ask is asked (same, none) =
         let P : Look Command → Type 0 = λ l. KeepsBy l terms next_child (goes_on place) prefix in
         record {
-          keeps = subst P (sym is) (record { stream = boxed; is = same; there = at });
+          keeps = subst P (sym is) (record { stream = boxed; is = same; there = at; unparked = unparked });
           gives = λ view.
               ap (λ l. seen_of view (to_servers (ask ∷ [])) ++ seen_of view l) none
               ∙ (append-nil (seen_of view (to_servers (ask ∷ [])))
@@ -121,99 +140,80 @@ module _ (terms : Terms) (recorded : Request) (boxed : Box Stream) (next_child :
     idle_on here (same, none) = record { keeps = same; gives = λ view. ap (seen_of view) none }
 
     -- a response of code 101 finishes it
-    upgrades_on : (here : At) (flow : Flow) (side : flows.ServerSide) (owed : List Command) → owed ≡ [] →
-        (next_child ≡ children.Over) × (more ≡ finished_by (Some flow) (Some (ByServer side.server seen.shut))) → FollowsBy (busy here flow (upgraded side)) seen (Ends owed)
-    upgrades_on here flow side owed nothing (same, gave) = record {
+    upgrades_on : (here : At) (flow : Flow) (server : ℕ) (owed : List Command) → owed ≡ [] →
+        (next_child ≡ children.Over) × (more ≡ finished_by (Some flow) (Some (server_in server seen))) → FollowsBy (busy here flow (upgraded server)) seen (Ends owed)
+    upgrades_on here flow server owed nothing (same, gave) = record {
       keeps = same;
       gives = λ view. ap (λ l. seen_of view (to_servers l) ++ seen_of view more) nothing ∙ ap (seen_of view) gave;
     }
 
-    module _ (requests : State) (is_here : Phase) (leads : Leads is_here) where
-      no_waits : (l : Look Command) → l ≡ Ends [] → l ≡ NotYet → ⊥
-      no_waits l ends is = let no : Ends [] ≡ NotYet = sym ends ∙ is in cc
+    module _ (leads : Leads boxed.value.phase) where
+      -- ---- it looks for something
 
-      not_yet : (stage : flows.Stage) → look terms stage seen ≡ NotYet → PhaseAt NotYet terms requests is_here stage seen → FollowsBy stage seen NotYet
-      not_yet (idle here) is (looked, sent, same, wants, gave) = idle_on here (subst Leads (same ∙ ap phase.Ready wants.phase) leads)
-      not_yet (busy here flow (request_body given)) is (looked, sent, same, wants, gave) =
-          waits_on (busy here flow (request_body given)) refl (subst Leads (same ∙ ap phase.Ready wants.phase) leads)
-      not_yet (busy here flow connection) is (looked, sent, same, wants, gave) =
-          waits_on (busy here flow connection) refl (subst Leads (same ∙ ap phase.Ready wants.phase) leads)
-      not_yet (busy here flow (response_head side how)) is (looked, sent, same, wants, gave) =
-          waits_on (busy here flow (response_head side how)) refl (subst Leads (same ∙ ap phase.Ready wants.phase) leads)
-      not_yet (busy here flow (response_body side how)) is (looked, sent, same, wants, gave) =
-          waits_on (busy here flow (response_body side how)) refl (subst Leads (same ∙ ap phase.Ready wants.phase) leads)
-      not_yet (busy here flow (upgraded side)) is looks = absurd (no_waits NotYet (ends_at_once seen.closed NotYet is) refl)
-      not_yet (busy here flow given_head) is (looked, sent, same, wants, gave) =
-          waits_on (busy here flow given_head) refl (subst Leads (same ∙ ap phase.Ready wants.phase) leads)
-      not_yet (busy here flow given_body) is (looked, sent, same, wants, gave) =
-          waits_on (busy here flow given_body) refl (subst Leads (same ∙ ap phase.Ready wants.phase) leads)
-      not_yet (next here) is looks = absurd (no_waits NotYet (ends_at_once seen.closed NotYet is) refl)
-      not_yet flows.over is looks = absurd (no_waits NotYet (ends_at_once seen.closed NotYet is) refl)
+      not_yet : (here : At) (looked : Wanted) → boxed.value.phase ≡ phase.Ready looked → look terms (stage_of here looked) seen ≡ NotYet → FollowsBy (stage_of here looked) seen NotYet
+      not_yet here ready.Idle same is = idle_on here (subst Leads same leads)
+      not_yet here (ready.RequestBody flow given body) same is = waits_on (busy here flow (request_body given)) refl (subst Leads same leads)
+      not_yet here (ready.Connection flow) same is = waits_on (busy here flow connection) refl (subst Leads same leads)
+      not_yet here (ready.ResponseHead flow server) same is = waits_on (busy here flow (response_head server all_sent)) refl (subst Leads same leads)
+      not_yet here (ready.ResponseBody flow server body) same is = waits_on (busy here flow (response_body server all_sent)) refl (subst Leads same leads)
+      not_yet here (ready.Upgraded flow server) same is = absurd (never_waits seen.closed is)
+      not_yet here (ready.GivenHead flow) same is = waits_on (busy here flow given_head) refl (subst Leads same leads)
+      not_yet here (ready.GivenBody flow) same is = waits_on (busy here flow given_body) refl (subst Leads same leads)
+      not_yet here (ready.Connects address) same is = absurd (never_waits seen.closed is)
+      not_yet here ready.Over same is = absurd (never_waits seen.closed is)
+
+      -- ---- it asks
 
       -- what is asked is asked of others
       quiet_ask : (stage : flows.Stage) (ask : Command) → look terms stage seen ≡ Asks ask → to_servers (ask ∷ []) ≡ ask ∷ []
       quiet_ask stage ask is = let P : Look Command → Type 0 = λ l. LooksQuiet any_flow l in asked_of_none ask (subst P is (finds_quiet_end terms stage seen))
 
-      asks_it : (stage : flows.Stage) (ask : Command) → seen.client ≡ [] → seen.closed ≡ false → look terms stage seen ≡ Asks ask → PhaseAt (Asks ask) terms requests is_here stage seen →
+      asks_it : (stage : flows.Stage) (ask : Command) (awaits : Asked) → seen.client ≡ [] → seen.closed ≡ false → boxed.value.phase ≡ phase.Asked awaits → look terms stage seen ≡ Asks ask →
           FollowsBy stage seen (Asks ask)
-      asks_it (idle here) ask none unclosed is looks = absurd (let no : NotYet ≡ Asks ask = sym (idle_waits terms here seen none unclosed) ∙ is in cc)
-      asks_it (busy here flow (request_body given)) ask none unclosed is (awaits, same, asked) =
-          asks_on (busy here flow (request_body given)) ask refl (quiet_ask (busy here flow (request_body given)) ask is) (subst Leads same leads)
-      asks_it (busy here flow connection) ask none unclosed is (awaits, same, asked) =
-          asks_on (busy here flow connection) ask refl (quiet_ask (busy here flow connection) ask is) (subst Leads same leads)
-      asks_it (busy here flow (response_head side how)) ask none unclosed is (awaits, same, asked) =
-          asks_on (busy here flow (response_head side how)) ask refl (quiet_ask (busy here flow (response_head side how)) ask is) (subst Leads same leads)
-      asks_it (busy here flow (response_body side how)) ask none unclosed is (awaits, same, asked) =
-          asks_on (busy here flow (response_body side how)) ask refl (quiet_ask (busy here flow (response_body side how)) ask is) (subst Leads same leads)
-      asks_it (busy here flow (upgraded side)) ask none unclosed is (awaits, same, asked) = absurd asked
-      asks_it (busy here flow given_head) ask none unclosed is (awaits, same, asked) =
-          asks_on (busy here flow given_head) ask refl (quiet_ask (busy here flow given_head) ask is) (subst Leads same leads)
-      asks_it (busy here flow given_body) ask none unclosed is (awaits, same, asked) =
-          asks_on (busy here flow given_body) ask refl (quiet_ask (busy here flow given_body) ask is) (subst Leads same leads)
-      asks_it (next here) ask none unclosed is (awaits, same, asked) = absurd asked
-      asks_it flows.over ask none unclosed is (awaits, same, asked) = absurd asked
+      asks_it stage ask awaits none unclosed same is =
+          let P : Look Command → Type 0 = λ k. k ≡ Asks ask in
+          let there : (s : flows.Stage) → stage ≡ s → look terms s seen ≡ Asks ask = λ s here. ap (λ k. look terms k seen) (sym here) ∙ is in
+          let asks : look_by stage seen (Asks ask) ≡ Asks ask =
+          found_by P stage seen (Asks ask) (λ here begins. absurd (let no : NotYet ≡ Asks ask = sym (idle_waits terms here seen none unclosed) ∙ there (idle here) begins in cc))
+          (λ here flow server upgrades. absurd (never_asks seen.closed ask (there (busy here flow (upgraded server)) upgrades))) refl in
+          asks_on stage ask asks (quiet_ask stage ask is) (subst Leads same leads)
+
+      -- ---- it ends
 
       -- the flow and the side of one that a response of code 101 finished
-      finished_as : boxed.value.phase ≡ is_here → (flow : Flow) (side : flows.ServerSide) (server : ℕ) (shut : Bool) → phase_flow is_here ≡ Some flow →
-          upgraded_side is_here ≡ Some (ByServer server shut) → server ≡ side.server → shut ≡ seen.shut →
-          more ≡ finished_by (phase_flow boxed.value.phase) (upgraded_side boxed.value.phase) → more ≡ finished_by (Some flow) (Some (ByServer side.server seen.shut))
-      finished_as its flow side server shut of_flow of_side is_server is_shut gave =
-          gave
-          ∙ (ap (λ p. finished_by (phase_flow p) (upgraded_side p)) its
-          ∙ (ap (λ f. finished_by f (upgraded_side is_here)) of_flow
-          ∙ (ap (λ u. finished_by (Some flow) u) of_side
-          ∙ (ap (λ n. finished_by (Some flow) (Some (ByServer n shut))) is_server
-          ∙ ap (λ b. finished_by (Some flow) (Some (ByServer side.server b))) is_shut))))
+      finished_as : (flow : Flow) (server : ℕ) → boxed.value.phase ≡ phase.Ready (ready.Upgraded flow server) → used_in boxed.value.side ≡ server_in server seen →
+          more ≡ finished_by (phase_flow boxed.value.phase) (upgraded_side boxed.value.phase boxed.value.side) → more ≡ finished_by (Some flow) (Some (server_in server seen))
+      finished_as flow server is_phase is_side gave =
+          gave ∙ (ap (λ p. finished_by (phase_flow p) (upgraded_side p boxed.value.side)) is_phase ∙ ap (λ u. finished_by (Some flow) (Some u)) is_side)
 
-      ends_it : (stage : flows.Stage) (owed : List Command) → seen.client ≡ [] → seen.closed ≡ false → boxed.value.phase ≡ is_here → look terms stage seen ≡ Ends owed →
-          PhaseAt (Ends owed) terms requests is_here stage seen → FollowsBy stage seen (Ends owed)
-      ends_it (idle here) owed none unclosed its is looks = absurd (let no : NotYet ≡ Ends owed = sym (idle_waits terms here seen none unclosed) ∙ is in cc)
-      ends_it (busy here flow (request_body given)) owed none unclosed its is (last, same, over) =
-          ends_on (busy here flow (request_body given)) owed refl (subst Leads (same ∙ ap phase.Ready over) leads)
-      ends_it (busy here flow connection) owed none unclosed its is (last, same, over) =
-          ends_on (busy here flow connection) owed refl (subst Leads (same ∙ ap phase.Ready over) leads)
-      ends_it (busy here flow (response_head side how)) owed none unclosed its is (last, same, over) =
-          ends_on (busy here flow (response_head side how)) owed refl (subst Leads (same ∙ ap phase.Ready over) leads)
-      ends_it (busy here flow (response_body side how)) owed none unclosed its is (last, same, over) =
-          ends_on (busy here flow (response_body side how)) owed refl (subst Leads (same ∙ ap phase.Ready over) leads)
-      ends_it (busy here flow (upgraded side)) owed none unclosed its is (last, same, over) =
+      ends_as : (stage : flows.Stage) (owed : List Command) (last : Wanted) → boxed.value.phase ≡ phase.Ready last → look_by stage seen (Ends owed) ≡ Ends (to_servers owed) → last ≡ ready.Over →
+          FollowsBy stage seen (Ends owed)
+      ends_as stage owed last same goes over = ends_on stage owed goes (subst Leads (same ∙ ap phase.Ready over) leads)
+
+      ends_it : (stage : flows.Stage) (owed : List Command) (last : Wanted) → seen.client ≡ [] → seen.closed ≡ false → boxed.value.phase ≡ phase.Ready last → look terms stage seen ≡ Ends owed →
+          IsLast terms stage seen boxed.value.requests boxed.value.side last → FollowsBy stage seen (Ends owed)
+      ends_it (idle here) owed last none unclosed same is over = absurd (let no : NotYet ≡ Ends owed = sym (idle_waits terms here seen none unclosed) ∙ is in cc)
+      ends_it (busy here flow (request_body given)) owed last none unclosed same is over = ends_as (busy here flow (request_body given)) owed last same refl over
+      ends_it (busy here flow connection) owed last none unclosed same is over = ends_as (busy here flow connection) owed last same refl over
+      ends_it (busy here flow (response_head server sent)) owed last none unclosed same is over = ends_as (busy here flow (response_head server sent)) owed last same refl over
+      ends_it (busy here flow (response_body server sent)) owed last none unclosed same is over = ends_as (busy here flow (response_body server sent)) owed last same refl over
+      ends_it (busy here flow (upgraded server)) owed last none unclosed same is over =
           let there = same ∙ ap phase.Ready over.phase in
-          let led : Leads (phase.Ready (ready.Upgraded flow over.kept)) = subst Leads there leads in
+          let led : Leads (phase.Ready (ready.Upgraded flow server)) = subst Leads there leads in
           let nothing : owed ≡ [] = (let e : Ends owed ≡ Ends [] = ends_at_once seen.closed (Ends owed) is in cc) in
-          upgrades_on here flow side owed nothing
-          (led.0, finished_as its flow side over.kept.server over.kept.closed (ap phase_flow there) (ap upgraded_side there) over.server over.closed led.1)
-      ends_it (busy here flow given_head) owed none unclosed its is (last, same, over) =
-          ends_on (busy here flow given_head) owed refl (subst Leads (same ∙ ap phase.Ready over) leads)
-      ends_it (busy here flow given_body) owed none unclosed its is (last, same, over) =
-          ends_on (busy here flow given_body) owed refl (subst Leads (same ∙ ap phase.Ready over) leads)
-      ends_it (next here) owed none unclosed its is (last, same, over) = ends_on (next here) owed refl (subst Leads (same ∙ ap phase.Ready over.phase) leads)
-      ends_it flows.over owed none unclosed its is (last, same, over) = ends_on flows.over owed refl (subst Leads (same ∙ ap phase.Ready over) leads)
+          upgrades_on here flow server owed nothing (led.0, finished_as flow server there (used_open server seen.server seen.shut boxed.value.side over.is_open) led.1)
+      ends_it (busy here flow given_head) owed last none unclosed same is over = ends_as (busy here flow given_head) owed last same refl over
+      ends_it (busy here flow given_body) owed last none unclosed same is over = ends_as (busy here flow given_body) owed last same refl over
+      ends_it (next here) owed last none unclosed same is over = ends_as (next here) owed last same refl over
+      ends_it flows.over owed last none unclosed same is over = ends_as flows.over owed last same refl over
 
-      follows_by : (stage : flows.Stage) (l : Look Command) → seen.client ≡ [] → seen.closed ≡ false → boxed.value.phase ≡ is_here → look terms stage seen ≡ l →
-          PhaseAt l terms requests is_here stage seen → FollowsBy stage seen l
-      follows_by stage NotYet none unclosed its is looks = not_yet stage is looks
-      follows_by stage (Asks ask) none unclosed its is looks = asks_it stage ask none unclosed is looks
-      follows_by stage (Ends owed) none unclosed its is looks = ends_it stage owed none unclosed its is looks
+      follows_by : (stage : flows.Stage) (l : Look Command) → seen.client ≡ [] → seen.closed ≡ false → look terms stage seen ≡ l →
+          PhaseAt l terms boxed.value.at boxed.value.requests boxed.value.side boxed.value.phase stage seen → FollowsBy stage seen l
+      follows_by stage NotYet none unclosed is (looked, sent, same, wants, gave) =
+          let P : flows.Stage → Type 0 = λ s. look terms s seen ≡ NotYet → FollowsBy s seen NotYet in
+          subst P wants.is_stage (not_yet boxed.value.at looked same) is
+      follows_by stage (Asks ask) none unclosed is (awaits, same, asked) = asks_it stage ask awaits none unclosed same is
+      follows_by stage (Ends owed) none unclosed is (last, same, over) = ends_it stage owed last none unclosed same is over
 
 -- What follows at a place: what is kept, and what was given beside what the flow's chain owes.
 pub record FollowsAt (terms : Terms) (recorded : Request) (next_child : Child) (more : List Command) (place : Standing) (prefix : List (Timed Event)) : Type 0 where
@@ -222,11 +222,11 @@ pub record FollowsAt (terms : Terms) (recorded : Request) (next_child : Child) (
       ≡ seen_of view (found ((resend_chain terms recorded).look (goes_on place) prefix))
 
 pub follows_at : (terms : Terms) (recorded : Request) (boxed : Box Stream) (next_child : Child) (more : List Command) (place : Standing) (prefix : List (Timed Event)) →
-    IsInSequence terms 0 boxed.value place (all_of_servers prefix) → Follows boxed next_child more → FollowsAt terms recorded next_child more place prefix
-follows_at terms recorded boxed next_child more place prefix at follows =
+    IsInSequence terms 0 boxed.value place (all_of_servers prefix) → IsUnparked place.stage → Follows boxed next_child more → FollowsAt terms recorded next_child more place prefix
+follows_at terms recorded boxed next_child more place prefix at unparked follows =
     let seen : Sight = sight_over place (all_of_servers prefix) in
-    let by = follows_by terms recorded boxed next_child more place prefix at seen boxed.value.requests boxed.value.phase follows place.stage (look terms place.stage seen)
-    (no_bytes prefix) (never_closed prefix) refl refl at.is_at.is_in.phase in
+    let by = follows_by terms recorded boxed next_child more place prefix at unparked seen follows place.stage (look terms place.stage seen)
+    (unsent place.used.client prefix) (never_closed prefix) refl at.is_at.is_in.phase in
     record { there = by.keeps; gives = by.gives }
 
 -- ---- what is awaited then, and how many replies may still be asked for
@@ -272,16 +272,15 @@ module _ (boxed : Box Stream) (next_child : Child) (more : List Command) where
       option_to_list (awaited_in is_here) ++ flat_map asks_in more ≡ option_to_list (awaited_by next_child)
   asks_by (phase.Asked awaits) its leads = goes_asks (phase.Asked awaits) its leads
   asks_by (phase.Ready ready.Idle) its leads = over_asks leads.0 (none_asked leads.1)
-  asks_by (phase.Ready (ready.Receiving flow given body)) its leads = goes_asks (phase.Ready (ready.Receiving flow given body)) its leads
-  asks_by (phase.Ready (ready.Dialling flow)) its leads = goes_asks (phase.Ready (ready.Dialling flow)) its leads
-  asks_by (phase.Ready (ready.Answering flow link)) its leads = goes_asks (phase.Ready (ready.Answering flow link)) its leads
-  asks_by (phase.Ready (ready.Returning flow link body)) its leads = goes_asks (phase.Ready (ready.Returning flow link body)) its leads
+  asks_by (phase.Ready (ready.RequestBody flow given body)) its leads = goes_asks (phase.Ready (ready.RequestBody flow given body)) its leads
+  asks_by (phase.Ready (ready.Connection flow)) its leads = goes_asks (phase.Ready (ready.Connection flow)) its leads
+  asks_by (phase.Ready (ready.ResponseHead flow server)) its leads = goes_asks (phase.Ready (ready.ResponseHead flow server)) its leads
+  asks_by (phase.Ready (ready.ResponseBody flow server body)) its leads = goes_asks (phase.Ready (ready.ResponseBody flow server body)) its leads
   asks_by (phase.Ready (ready.GivenHead flow)) its leads = goes_asks (phase.Ready (ready.GivenHead flow)) its leads
   asks_by (phase.Ready (ready.GivenBody flow)) its leads = goes_asks (phase.Ready (ready.GivenBody flow)) its leads
-  asks_by (phase.Ready ready.Finished) its leads = over_asks leads.0 (none_asked leads.1)
   asks_by (phase.Ready (ready.Connects address)) its leads = over_asks leads.0 (none_asked leads.1)
-  asks_by (phase.Ready (ready.Upgraded flow link)) its leads =
-      over_asks leads.0 (ap (flat_map asks_in) leads.1 ∙ finished_asks (phase_flow boxed.value.phase) (upgraded_side boxed.value.phase))
+  asks_by (phase.Ready (ready.Upgraded flow server)) its leads =
+      over_asks leads.0 (ap (flat_map asks_in) leads.1 ∙ finished_asks (phase_flow boxed.value.phase) (upgraded_side boxed.value.phase boxed.value.side))
   asks_by (phase.Ready ready.Over) its leads = over_asks leads.0 (none_asked leads.1)
 
   pub follows_asks : Follows boxed next_child more →

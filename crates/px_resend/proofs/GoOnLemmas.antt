@@ -23,33 +23,30 @@ use Rattle.px_exchange.specs.declared.terms.Terms.{Terms}
 use Rattle.px_exchange.specs.Finds.{or_leaves}
 use Rattle.px_exchange.specs.Flows.{ask_of, with_start}
 use Rattle.px_exchange.specs.Places.{dialled_for, terms_of}
-use Rattle.px_chain.specs.Chain.{look, pass}
+use Rattle.px_chain.specs.Chain.{look, parked_of, pass}
 use Rattle.px_chain.specs.Sights.{Sight, Standing, sight_over}
-use Rattle.px_chain.specs.Stages.{busy}
+use Rattle.px_chain.specs.Stages.{At, Parked, busy}
 use Rattle.px_chain.specs.Stages as flows
-use Rattle.px_chain.specs.Streams.{bytes_of, from_here}
+use Rattle.px_chain.specs.Streams.{bytes_of}
 use Rattle.px_chain.proofs.FrontLaws.{now_here}
 use Rattle.px_stream.specs.declared.link.Link.{Link}
-use Rattle.px_stream.specs.declared.numbers.Numbers.{Numbers}
 use Rattle.px_stream.specs.declared.phase.Asked.{Asked}
 use Rattle.px_stream.specs.declared.phase.Phase.{Phase}
 use Rattle.px_stream.specs.declared.phase.Phase.TheVariants as phase
 use Rattle.px_stream.specs.declared.stream.Stream.{Stream}
-use Rattle.px_stream.specs.Anywhere.{BeginsThere, IsNew}
-use Rattle.px_stream.specs.GoingOn.{GoesOnWith, MayGoOn, doing_by}
-use Rattle.px_stream.specs.Left.{sequence_by, sequence_left}
-use Rattle.px_stream.specs.Phases.{parked_at}
-use Rattle.px_stream.specs.Sequence.{IsSideBelow, is_idle, outcome_in}
-use Rattle.px_stream.specs.Stands.{HasParked, PhaseAt, awaits}
+use Rattle.px_stream.specs.Anywhere.{BeginsThere, GoesOnWith, IsCounted, IsNew, MayGoOn, doing_by, unheard}
+use Rattle.px_stream.specs.Tells.{IsSideBelow, is_idle, left_by as stream_left, outcome_in, sequence_left}
+use Rattle.px_stream.specs.Stands.{PhaseAt, awaits, parked_link}
 use Rattle.px_resend.specs.declared.child.Child.TheVariants as children
-use Rattle.px_resend.specs.Chain.{first_at, flows_of, going, place_by, terms_by}
+use Rattle.px_resend.specs.Chain.{first_at, flows_of, going, going_at, place_by, terms_by}
 use Rattle.px_resend.specs.Heard.{all_of_servers, to_servers}
 use Rattle.px_resend.specs.Kept.{awaited_by, going_left, left_by}
+use Rattle.px_resend.specs.Stands.{IsUnparked}
 use Rattle.px_resend.specs.Steps.{Adds, Arrives, Follows, FollowsAs, GoesOnAs}
 use Rattle.px_resend.proofs.FollowLemmas.{follows_at}
 use Rattle.px_resend.proofs.GoingLemmas.{owed_there}
 use Rattle.px_resend.proofs.HeardLemmas.{never_closed, no_bytes, servers_alike, servers_asked}
-use Rattle.px_resend.proofs.ParkedLemmas.{has_no_home, none_behind}
+use Rattle.px_resend.proofs.BehindDial.{first_unparked, passed_unparked}
 
 -- ---- a stream of this place
 
@@ -58,56 +55,49 @@ pub no_side : (proxy : Option Address) (place : Place) → place ≡ place_by pr
 no_side None place is = let P : Place → Type 0 = λ p. IsSideBelow p 0 in subst P (sym is) tt
 no_side (Some address) place is = let P : Place → Type 0 = λ p. IsSideBelow p 0 in subst P (sym is) tt
 
-none_parked : (proxy : Option Address) → parked_at (place_by proxy) ≡ None
+none_parked : (proxy : Option Address) → parked_of (place_by proxy) ≡ None
 none_parked None = refl
 none_parked (Some address) = refl
 
 -- What a stream is that was made for it.
 pub record IsMadeFor (conv : ℕ) (proxy : Option Address) (state : Stream) : Type 0 where
   pub terms : state.terms ≡ terms_by conv proxy
-  pub numbers : state.numbers ≡ record { flow = 0; server = 0 }
-  pub parked : state.parked ≡ None
+  pub at : state.at ≡ first_at
   pub is_new : IsNew state
 
+-- the first flow, where this is parked
+abbrev first_with : Option Parked → At
+first_with parked = record { flow = 0; dials = 0; parked = parked }
+
 pub made_for : (conv : ℕ) (proxy : Option Address) (place : Place) (state : Stream) → place ≡ place_by proxy → state.terms ≡ terms_of conv None place →
-    state.numbers ≡ record { flow = 0; server = 0 } → state.parked ≡ parked_at place → IsNew state → IsMadeFor conv proxy state
-made_for conv proxy place state is terms numbers parked is_new =
-    record { terms = terms ∙ ap (terms_of conv None) is; numbers = numbers; parked = parked ∙ (ap parked_at is ∙ none_parked proxy); is_new = is_new }
+    state.at ≡ record { flow = 0; dials = 0; parked = parked_of place } → IsNew state → IsMadeFor conv proxy state
+made_for conv proxy place state is terms at is_new =
+    record { terms = terms ∙ ap (terms_of conv None) is; at = at ∙ (ap (λ p. first_with (parked_of p)) is ∙ ap first_with (none_parked proxy)); is_new = is_new }
 
 -- ---- where it goes on
-
--- the first flow at this moment, over these events
-abbrev place_at : Flow → ℕ → List (Timed Event) → Standing
-place_at flow moment heard = record { stage = busy first_at flow (doing_by flow.response); since = from_here moment heard; opened = 0 }
-
--- and no side is parked there
-none_there : (given : Option Response) (place : Place) (flow : Flow) (seen : Sight) → HasParked place (busy first_at flow (doing_by given)) seen None
-none_there None place flow seen = tt
-none_there (Some response) place flow seen = tt
 
 at_first : (bytes : List ℕ) → bytes ≡ [] → drop 0 bytes ≡ []
 at_first bytes is = is
 
+-- no side is parked there
+none_there : (side : Option Link) (parked : Option Parked) (seen : Sight) → side ≡ unheard parked → parked ≡ None → side ≡ parked_link parked seen
+none_there side parked seen is none = is ∙ (ap unheard none ∙ sym (ap (λ p. parked_link p seen) none))
+
 may_go_on : (conv : ℕ) (proxy : Option Address) (before : Stream) (flow : Flow) (moment : ℕ) (prefix : List (Timed Event)) → IsMadeFor conv proxy before →
-    MayGoOn (terms_by conv proxy) 0 before moment flow (place_at flow moment (all_of_servers prefix)) (all_of_servers prefix)
+    MayGoOn (terms_by conv proxy) 0 before moment flow (going_at flow moment (all_of_servers prefix)) (all_of_servers prefix)
 may_go_on conv proxy before flow moment prefix is =
     let heard : List (Timed Event) = all_of_servers prefix in
-    let at : Standing = place_at flow moment heard in
-    let seen : Sight = sight_over at heard in
-    let P : Option Link → Type 0 = λ parked. HasParked (place_by proxy) at.stage seen parked in
+    let seen : Sight = sight_over (going_at flow moment heard) heard in
+    let C : At → Type 0 = IsCounted 0 in
     record {
       terms = is.terms;
-      at = first_at;
-      stage = refl;
-      index = ap (λ n. n.flow) is.numbers;
-      server = ap (λ n. n.server) is.numbers;
-      few = record { few = omega arith; dials = omega arith };
+      stage = ap (λ at. busy at flow (doing_by flow.response)) (sym is.at);
+      few = subst C (sym is.at) (record { few = omega arith; dials = omega arith });
       small = omega arith;
-      used = omega arith;
       come = at_first (bytes_of Client heard) (no_bytes prefix);
       client = never_closed prefix;
-      parked = subst P (sym is.parked) (none_there flow.response (place_by proxy) flow seen);
-      within = record { since = omega arith; opened = omega arith };
+      parked = none_there before.side before.at.parked seen is.is_new.side (ap (λ at. at.parked) is.at);
+      within = record { since = omega arith; opened = omega arith; client = omega arith; server = omega arith };
       now = sym (now_here moment heard);
     }
 
@@ -124,11 +114,11 @@ asks_by (Some response) terms flow before seen =
     let ask : Command = ask_of (with_start flow seen.now) ResponseHead in (ask, asks_still seen.closed [] ask)
 
 -- so an answer is awaited
-asked_phase : (l : Look Command) (terms : Terms) (requests : State) (is_here : Phase) (stage : flows.Stage) (seen : Sight) (ask : Command) → l ≡ Asks ask →
-    PhaseAt l terms requests is_here stage seen → (awaited : Asked) × (is_here ≡ phase.Asked awaited)
-asked_phase NotYet terms requests is_here stage seen ask is looks = absurd (let no : NotYet ≡ Asks ask = is in cc)
-asked_phase (Asks one) terms requests is_here stage seen ask is (awaited, same, at) = (awaited, same)
-asked_phase (Ends owed) terms requests is_here stage seen ask is looks = absurd (let no : Ends owed ≡ Asks ask = is in cc)
+asked_phase : (l : Look Command) (terms : Terms) (at : At) (requests : State) (side : Option Link) (is_here : Phase) (stage : flows.Stage) (seen : Sight) (ask : Command) → l ≡ Asks ask →
+    PhaseAt l terms at requests side is_here stage seen → (awaited : Asked) × (is_here ≡ phase.Asked awaited)
+asked_phase NotYet terms at requests side is_here stage seen ask is looks = absurd (let no : NotYet ≡ Asks ask = is in cc)
+asked_phase (Asks one) terms at requests side is_here stage seen ask is (awaited, same, stands) = (awaited, same)
+asked_phase (Ends owed) terms at requests side is_here stage seen ask is looks = absurd (let no : Ends owed ≡ Asks ask = is in cc)
 
 -- and it is kept
 follows_asked : (boxed : Box Stream) (awaited : Asked) → boxed.value.phase ≡ phase.Asked awaited → Follows boxed (children.GoesOn boxed) []
@@ -139,21 +129,23 @@ module _ (conv : ℕ) (proxy : Option Address) (recorded : Request) (flow : Flow
   abbrev terms : Terms
   terms = terms_by conv proxy
 
-  arrives : (prefix : List (Timed Event)) → BeginsThere terms 0 boxed.value given (place_at flow moment (all_of_servers prefix)) (all_of_servers prefix) →
+  arrives : (prefix : List (Timed Event)) → BeginsThere terms 0 boxed.value given (going_at flow moment (all_of_servers prefix)) (all_of_servers prefix) →
       Arrives terms recorded (children.GoesOn boxed) (to_servers given) (going flow moment (all_of_servers prefix)) prefix
   arrives prefix there =
       let heard : List (Timed Event) = all_of_servers prefix in
       let chain = flows_of terms recorded in
-      let place : Standing = place_at flow moment heard in
+      let place : Standing = going_at flow moment heard in
       let on : Standing = (chain.pass place heard).stage in
       let asks = asks_by flow.response terms flow (sight_over place heard) (sight_over on heard) in
-      let asked = asked_phase (look terms on.stage (sight_over on heard)) terms boxed.value.requests boxed.value.phase on.stage (sight_over on heard) asks.0 asks.1 there.is_there.is_at.is_in.phase in
-      let follows = follows_at terms recorded boxed (children.GoesOn boxed) [] on prefix there.is_there (follows_asked boxed asked.0 asked.1) in
+      let asked = asked_phase (look terms on.stage (sight_over on heard)) terms boxed.value.at boxed.value.requests boxed.value.side boxed.value.phase on.stage (sight_over on heard) asks.0 asks.1
+      there.is_there.is_at.is_in.phase in
+      let still : IsUnparked on.stage = passed_unparked place.stage (sight_over place heard) (first_unparked flow.response flow) in
+      let follows = follows_at terms recorded boxed (children.GoesOn boxed) [] on prefix there.is_there still (follows_asked boxed asked.0 asked.1) in
       record {
         there = follows.there;
         gives = λ view.
             servers_alike view given (owed_here chain on heard) (there.gives view)
-            ∙ (ap (seen_of view) (owed_there terms recorded on heard (none_behind terms 0 boxed.value on heard (has_no_home conv proxy) there.is_there))
+            ∙ (ap (seen_of view) (owed_there terms recorded on heard still)
             ∙ (sym (append-nil (seen_of view (to_servers (found (chain.look on heard))))) ∙ follows.gives view));
       }
 
@@ -167,8 +159,8 @@ module _ (conv : ℕ) (proxy : Option Address) (recorded : Request) (flow : Flow
         more = to_servers given;
         grown = passed;
         holds = λ prefix.
-            let there = goes.goes_on terms 0 (place_at flow moment (all_of_servers prefix)) (all_of_servers prefix) (may_go_on conv proxy before flow moment prefix is) in
-            let B : List Command → Type 0 = λ l. BeginsThere terms 0 boxed.value l (place_at flow moment (all_of_servers prefix)) (all_of_servers prefix) in
+            let there = goes.goes_on terms 0 (going_at flow moment (all_of_servers prefix)) (all_of_servers prefix) (may_go_on conv proxy before flow moment prefix is) in
+            let B : List Command → Type 0 = λ l. BeginsThere terms 0 boxed.value l (going_at flow moment (all_of_servers prefix)) (all_of_servers prefix) in
             arrives prefix (subst B (sym goes.grown) there);
       }
 
@@ -185,9 +177,8 @@ asks_there boxed after start given out between is empty passed (more, same, aske
 pub left_there : (conv : ℕ) (proxy : Option Address) (before after : Stream) (boxed : Box Stream) → boxed.value ≡ after → IsMadeFor conv proxy before →
     sequence_left after ≤ sequence_left before → left_by (children.GoesOn boxed) ≤ going_left
 left_there conv proxy before after boxed same is fewer =
-    let at_numbers : sequence_left before ≡ sequence_by (record { flow = 0; server = 0 }) before.phase = ap (λ n. sequence_by n before.phase) is.numbers in
-    let N : Numbers = record { flow = 0; server = 0 } in
-    let at_phase : sequence_by N before.phase ≡ going_left = ap (λ p. sequence_by N p) is.is_new.phase in
-    let first : sequence_left before ≡ going_left = at_numbers ∙ at_phase in
+    let at_first : sequence_left before ≡ stream_left first_at before.phase = ap (λ at. stream_left at before.phase) is.at in
+    let at_phase : stream_left first_at before.phase ≡ going_left = ap (stream_left first_at) is.is_new.phase in
+    let first : sequence_left before ≡ going_left = at_first ∙ at_phase in
     let last : left_by (children.GoesOn boxed) ≡ sequence_left after = ap (λ s. sequence_left s) same in
     omega arith

@@ -1,5 +1,5 @@
 -- A flow that goes on: what the calls of its stream do, those of the request do, without what is said to a client.
-use Rattle.std.proofs.Common.{◌≡◌, ◌≤◌, ◌<◌, ℕ, List, [], ◌∷◌, ◌++◌, map, None, refl, ap, sym, ◌∙◌, subst, arith, append_assoc}
+use Rattle.std.proofs.Common.{◌≡◌, ◌≤◌, ◌<◌, ℕ, List, [], ◌∷◌, ◌++◌, map, refl, ap, sym, ◌∙◌, subst, arith, append_assoc}
 use Rattle.std.specs.Prelude.{IfOk, Result, Ok, Err}
 use Rattle.std.specs.Global.{Box}
 use Rattle.std.specs.List.{flat_map}
@@ -24,21 +24,21 @@ use Rattle.px_chain.specs.Sights.{Sight, Standing, answers_in, sight_over}
 use Rattle.px_chain.specs.Stages.{busy, connection, given_body, given_head, idle, next, request_body, response_body, response_head, upgraded}
 use Rattle.px_chain.specs.Stages as flows
 use Rattle.px_stream.specs.declared.stream.Stream.{Stream}
-use Rattle.px_stream.specs.Anywhere.{ResumesAnywhere, Somewhere, TakesAnywhere}
-use Rattle.px_stream.specs.Left.{sequence_left}
-use Rattle.px_stream.specs.Sequence.{IsInSequence}
-use Rattle.px_stream.specs.Stands.{awaits, home_of}
+use Rattle.px_stream.specs.Anywhere.{IsInSequence, ResumesAnywhere, Somewhere, TakesAnywhere}
+use Rattle.px_stream.specs.Tells.{sequence_left}
+use Rattle.px_stream.specs.Stands.{awaits}
 use Rattle.px_resend.specs.declared.child.Child.{Child}
 use Rattle.px_resend.specs.declared.child.Child.TheVariants as children
 use Rattle.px_resend.specs.Chain.{Stage, asks_head, asks_whole, flows_of, goes_on, over, resend_chain, waiting}
 use Rattle.px_resend.specs.Heard.{all_of_servers, of_servers, to_servers}
 use Rattle.px_resend.specs.Kept.{awaited_by, left_by}
 use Rattle.px_resend.specs.Laws.{same_unless}
-use Rattle.px_resend.specs.Stands.{IsChild, IsSomewhere, Keeps, KeepsBy}
+use Rattle.px_resend.specs.Stands.{IsChild, IsSomewhere, IsUnparked, Keeps, KeepsBy}
 use Rattle.px_resend.specs.Steps.{Adds, Follows, ResumesChild, TakesChild}
 use Rattle.px_resend.proofs.FollowLemmas.{follows_asks, follows_at, follows_left}
 use Rattle.px_resend.proofs.HeardLemmas.{all_longer, servers_alike, servers_append, servers_asked}
-use Rattle.px_resend.proofs.ParkedLemmas.{none_behind}
+use Rattle.px_resend.proofs.OwedLemmas.{asked_there}
+use Rattle.px_resend.proofs.BehindDial.{none_behind, passed_unparked, turned_unparked}
 
 -- ---- where a flow is kept
 
@@ -47,6 +47,7 @@ pub record IsKept (terms : Terms) (boxed : Box Stream) (stage : Stage) (prefix :
   pub place : Standing
   pub is : stage ≡ goes_on place
   pub there : IsInSequence terms 0 boxed.value place (all_of_servers prefix)
+  pub unparked : IsUnparked place.stage
 
 same_box : (a b : Box Stream) → children.GoesOn a ≡ children.GoesOn b → a ≡ b
 same_box a b is = cc
@@ -58,7 +59,7 @@ keeps_going terms boxed (asks_head flow) prefix is = absurd (let no : children.G
 keeps_going terms boxed (asks_whole flow) prefix is = absurd (let no : children.GoesOn boxed ≡ children.AsksWhole flow = is in cc)
 keeps_going terms boxed (goes_on place) prefix is =
     let P : Box Stream → Type 0 = λ b. IsInSequence terms 0 b.value place (all_of_servers prefix) in
-    record { place = place; is = refl; there = subst P (sym (same_box boxed is.stream is.is)) is.there }
+    record { place = place; is = refl; there = subst P (sym (same_box boxed is.stream is.is)) is.there; unparked = is.unparked }
 keeps_going terms boxed over prefix is = absurd is
 
 kept_by_look : (l : Look Command) (terms : Terms) (boxed : Box Stream) (stage : Stage) (prefix : List (Timed Event)) → KeepsBy l terms (children.GoesOn boxed) stage prefix →
@@ -106,7 +107,7 @@ waits_none : (stage : flows.Stage) (seen : Sight) → to_servers (so_far stage s
 waits_none (idle at) seen = refl
 waits_none (busy at flow (request_body given)) seen = refl
 waits_none (busy at flow connection) seen = refl
-waits_none (busy at flow (response_head side how)) seen = interim_by flow.request.version flow.request (answers_in flow.request side seen).interim refl
+waits_none (busy at flow (response_head side how)) seen = interim_by flow.request.version flow.request (answers_in flow.request seen).interim refl
 waits_none (busy at flow (response_body side how)) seen = refl
 waits_none (busy at flow (upgraded side)) seen = refl
 waits_none (busy at flow given_head) seen = refl
@@ -114,17 +115,17 @@ waits_none (busy at flow given_body) seen = refl
 waits_none (next at) seen = refl
 waits_none flows.over seen = refl
 
--- what a place owes to servers is what is found there, where nothing is owed behind an ask
-pub owed_there : (terms : Terms) (recorded : Request) (place : Standing) (prefix : List (Timed Event)) → (flows_of terms recorded).behind place prefix ≡ [] →
+-- what a place owes to servers is what is found there, where no side is parked
+pub owed_there : (terms : Terms) (recorded : Request) (place : Standing) (prefix : List (Timed Event)) → IsUnparked place.stage →
     to_servers (owed_here (flows_of terms recorded) place prefix) ≡ to_servers (found ((flows_of terms recorded).look place prefix))
-owed_there terms recorded place prefix none =
+owed_there terms recorded place prefix unparked =
     let waits : List Command = so_far place.stage (sight_over place prefix) in
     let here : Look Command = (flows_of terms recorded).look place prefix in
-    ap (λ behind. to_servers (waits ++ found_with behind here)) none
+    ap (λ behind. to_servers (waits ++ found_with behind here)) (none_behind place.stage (sight_over place prefix) unparked)
     ∙ (servers_append waits (found here)
     ∙ ap (λ l. l ++ to_servers (found here)) (waits_none place.stage (sight_over place prefix)))
 
-module _ (terms : Terms) (recorded : Request) (no_home : home_of terms.place ≡ None) (boxed : Box Stream) (after : Box Stream) (child : Child) (given second : List Command) (follows : Follows after child second) where
+module _ (terms : Terms) (recorded : Request) (boxed : Box Stream) (after : Box Stream) (child : Child) (given second : List Command) (follows : Follows after child second) where
   -- ---- an event
 
   -- what the two gave, one behind the other
@@ -141,32 +142,33 @@ module _ (terms : Terms) (recorded : Request) (no_home : home_of terms.place ≡
   -- over these events of servers
   goes_to : (moment : ℕ) (event : Event) (place : Standing) (prefix : List (Timed Event)) (longer : List (Timed Event)) →
       longer ≡ all_of_servers (prefix ++ record { moment = moment; value = event } ∷ []) →
-      IsChild terms recorded (children.GoesOn boxed) (goes_on place) prefix →
+      IsChild terms recorded (children.GoesOn boxed) (goes_on place) prefix → IsUnparked place.stage →
       (flows_of terms recorded).look place (all_of_servers prefix) ≡ NotYet →
       IsInSequence terms 0 after.value ((flows_of terms recorded).pass place longer).stage longer →
       ((view : View) → seen_of view ((flows_of terms recorded).so_far place (all_of_servers prefix)) ++ seen_of view given
       ≡ seen_of view (owed_over (flows_of terms recorded) place longer)) →
       Takes (resend_chain terms recorded) (IsChild terms recorded) child moment event (to_servers given ++ second) (goes_on place) prefix
-  goes_to moment event place prefix longer same is_child is at gives =
+  goes_to moment event place prefix longer same is_child unparked is at gives =
       let e : Timed Event = record { moment = moment; value = event } in
       let chain = flows_of terms recorded in
       let more : List (Timed Event) = all_of_servers (prefix ++ e ∷ []) in
       let P : List (Timed Event) → Type 0 = λ p. IsInSequence terms 0 after.value (chain.pass place p).stage p in
       let on : Standing = (chain.pass place more).stage in
       let there : IsInSequence terms 0 after.value on more = subst P same at in
-      let next_there = follows_at terms recorded after child second on (prefix ++ e ∷ []) there follows in
+      let still : IsUnparked on.stage = passed_unparked place.stage (sight_over place more) unparked in
+      let next_there = follows_at terms recorded after child second on (prefix ++ e ∷ []) there still follows in
       onward (found_same terms recorded boxed place prefix is_child ∙ is) next_there.there
       (λ view. gave_both view (chain.so_far place (all_of_servers prefix)) (owed_here chain on more) (found (chain.look on more))
       (found ((resend_chain terms recorded).look (goes_on on) (prefix ++ e ∷ []))) (waits_none place.stage (sight_over place (all_of_servers prefix)))
-      (owed_there terms recorded on more (none_behind terms 0 after.value on more no_home there)) (gives view ∙ ap (λ p. seen_of view (owed_over chain place p)) same) (next_there.gives view))
+      (owed_there terms recorded on more still) (gives view ∙ ap (λ p. seen_of view (owed_over chain place p)) same) (next_there.gives view))
 
-  takes_there : (moment : ℕ) (event : Event) (place : Standing) (prefix : List (Timed Event)) → IsChild terms recorded (children.GoesOn boxed) (goes_on place) prefix →
+  takes_there : (moment : ℕ) (event : Event) (place : Standing) (prefix : List (Timed Event)) → IsChild terms recorded (children.GoesOn boxed) (goes_on place) prefix → IsUnparked place.stage →
       Takes (http_chain sequence terms) (IsInSequence terms 0) after.value moment (of_servers event) given place (all_of_servers prefix) →
       Takes (resend_chain terms recorded) (IsChild terms recorded) child moment event (to_servers given ++ second) (goes_on place) prefix
-  takes_there moment event place prefix is_child (onward is at gives) =
+  takes_there moment event place prefix is_child unparked (onward is at gives) =
       goes_to moment event place prefix (all_of_servers prefix ++ record { moment = moment; value = of_servers event } ∷ [])
-      (sym (all_longer prefix (record { moment = moment; value = event }))) is_child is at gives
-  takes_there moment event place prefix is_child (past_end owed is at gives) =
+      (sym (all_longer prefix (record { moment = moment; value = event }))) is_child unparked is at gives
+  takes_there moment event place prefix is_child unparked (past_end owed is at gives) =
       absurd (not_ended ((resend_chain terms recorded).look (goes_on place) prefix) terms boxed (goes_on place) prefix owed is_child
       (found_same terms recorded boxed place prefix is_child ∙ is))
 
@@ -179,26 +181,30 @@ module _ (terms : Terms) (recorded : Request) (no_home : home_of terms.place ≡
       let P : Stage → Type 0 = λ s. IsChild terms recorded (children.GoesOn boxed) s prefix →
       Takes (resend_chain terms recorded) (IsChild terms recorded) child moment event (to_servers given ++ second) s prefix in
       subst P (sym kept.is)
-      (λ there. takes_there moment event kept.place prefix there (takes terms 0 kept.place (all_of_servers prefix) kept.there)) is
+      (λ there. takes_there moment event kept.place prefix there kept.unparked (takes terms 0 kept.place (all_of_servers prefix) kept.there)) is
 
   -- ---- a reply
 
-  resumes_there : (moment : ℕ) (reply : Reply) (place : Standing) (prefix : List (Timed Event)) → IsChild terms recorded (children.GoesOn boxed) (goes_on place) prefix →
+  resumes_there : (moment : ℕ) (reply : Reply) (place : Standing) (prefix : List (Timed Event)) → IsChild terms recorded (children.GoesOn boxed) (goes_on place) prefix → IsUnparked place.stage →
       Resumes (http_chain sequence terms) (IsInSequence terms 0) after.value moment reply given place (all_of_servers prefix) →
       Resumes (resend_chain terms recorded) (IsChild terms recorded) child moment reply (to_servers given ++ second) (goes_on place) prefix
-  resumes_there moment reply place prefix is_child resumes =
+  resumes_there moment reply place prefix is_child unparked resumes =
       let answer : Timed Reply = record { moment = moment; value = reply } in
       let chain = flows_of terms recorded in
       let heard : List (Timed Event) = all_of_servers prefix in
       let turned = chain.turn place heard answer in
       let on : Standing = (chain.pass turned.stage heard).stage in
-      let next_there = follows_at terms recorded after child second on prefix resumes.place follows in
+      let seen : Sight = sight_over place heard in
+      let asked : (resend_chain terms recorded).look (goes_on place) prefix ≡ Asks resumes.ask = found_same terms recorded boxed place prefix is_child ∙ resumes.asked in
+      let led : IsUnparked turned.stage.stage = turned_unparked terms place.stage seen answer unparked (asked_there terms place.stage seen resumes.ask asked).0 in
+      let still : IsUnparked on.stage = passed_unparked turned.stage.stage (sight_over turned.stage heard) led in
+      let next_there = follows_at terms recorded after child second on prefix resumes.place still follows in
       let all : List Command = turned.owed ++ owed_here chain on heard in
       let said : to_servers all ≡ to_servers turned.owed ++ to_servers (found (chain.look on heard)) =
-      servers_append turned.owed (owed_here chain on heard) ∙ ap (λ l. to_servers turned.owed ++ l) (owed_there terms recorded on heard (none_behind terms 0 after.value on heard no_home resumes.place)) in
+      servers_append turned.owed (owed_here chain on heard) ∙ ap (λ l. to_servers turned.owed ++ l) (owed_there terms recorded on heard still) in
       record {
         ask = resumes.ask;
-        asked = found_same terms recorded boxed place prefix is_child ∙ resumes.asked;
+        asked = asked;
         place = next_there.there;
         gives = λ view.
             seen_append view (to_servers given) second
@@ -218,30 +224,29 @@ module _ (terms : Terms) (recorded : Request) (no_home : home_of terms.place ≡
       let P : Stage → Type 0 = λ s. IsChild terms recorded (children.GoesOn boxed) s prefix →
       Resumes (resend_chain terms recorded) (IsChild terms recorded) child moment reply (to_servers given ++ second) s prefix in
       subst P (sym kept.is)
-      (λ there. resumes_there moment reply kept.place prefix there (resumes terms 0 kept.place (all_of_servers prefix) kept.there)) is
+      (λ there. resumes_there moment reply kept.place prefix there kept.unparked (resumes terms 0 kept.place (all_of_servers prefix) kept.there)) is
 
 -- ---- the calls, whose stream wrote to a list of its own
 
 pub went : (out between longer given second : List Command) → between ≡ out ++ to_servers given → longer ≡ between ++ second → longer ≡ out ++ (to_servers given ++ second)
 went out between longer given second passed grown = grown ∙ (ap (λ l. l ++ second) passed ∙ append_assoc out (to_servers given) second)
 
-module _ (terms : Terms) (recorded : Request) (no_home : home_of terms.place ≡ None) (boxed after : Box Stream) (start given out between longer : List Command) (empty : start ≡ []) (passed : between ≡ out ++ to_servers given) where
-  pub takes_all : {E : Type 0} (result : Result Child E) (moment : ℕ) (event heard : Event) (had : Stream) → heard ≡ of_servers event → had ≡ boxed.value →
-      TakesAnywhere had after.value moment heard start given → IfOk result (λ next. Adds (Follows after next) between longer) →
+module _ (terms : Terms) (recorded : Request) (boxed after : Box Stream) (start given out between longer : List Command) (empty : start ≡ []) (passed : between ≡ out ++ to_servers given) where
+  pub takes_all : {E : Type 0} (result : Result Child E) (moment : ℕ) (event : Event) (had : Stream) → had ≡ boxed.value →
+      TakesAnywhere had after.value moment (of_servers event) start given → IfOk result (λ next. Adds (Follows after next) between longer) →
       IfOk result (λ next. Adds (TakesChild terms recorded (children.GoesOn boxed) next moment event) out longer)
-  takes_all (Ok child) moment event heard had is same takes adds =
-      let P : Stream → Type 0 = λ s. TakesAnywhere s after.value moment heard start given in
-      let Q : Event → Type 0 = λ e. TakesAnywhere boxed.value after.value moment e start given in
+  takes_all (Ok child) moment event had same takes adds =
+      let P : Stream → Type 0 = λ s. TakesAnywhere s after.value moment (of_servers event) start given in
       let S : List Command → Type 0 = λ l. TakesAnywhere boxed.value after.value moment (of_servers event) l given in
-      let there : TakesAnywhere boxed.value after.value moment (of_servers event) [] given = subst S empty (subst Q is (subst P same takes)) in
+      let there : TakesAnywhere boxed.value after.value moment (of_servers event) [] given = subst S empty (subst P same takes) in
       let L : List Command → Type 0 = λ l. (made : Terms) (ahead : ℕ) (place : Standing) (prefix : List (Timed Event)) → IsInSequence made ahead boxed.value place prefix →
       Takes (http_chain sequence made) (IsInSequence made ahead) after.value moment (of_servers event) l place prefix in
       record {
         more = to_servers given ++ adds.more;
         grown = went out between longer given adds.more passed adds.grown;
-        holds = going_takes terms recorded no_home boxed after child given adds.more adds.holds moment event (subst L (sym there.grown) there.takes);
+        holds = going_takes terms recorded boxed after child given adds.more adds.holds moment event (subst L (sym there.grown) there.takes);
       }
-  takes_all (Err error) moment event heard had is same takes adds = tt
+  takes_all (Err error) moment event had same takes adds = tt
 
   pub resumes_all : {E : Type 0} (result : Result Child E) (moment : ℕ) (reply : Reply) (had : Stream) → had ≡ boxed.value →
       ResumesAnywhere had after.value moment reply start given → IfOk result (λ next. Adds (Follows after next) between longer) →
@@ -255,7 +260,7 @@ module _ (terms : Terms) (recorded : Request) (no_home : home_of terms.place ≡
       record {
         more = to_servers given ++ adds.more;
         grown = went out between longer given adds.more passed adds.grown;
-        holds = going_resumes terms recorded no_home boxed after child given adds.more adds.holds moment reply (subst L (sym there.grown) there.resumes);
+        holds = going_resumes terms recorded boxed after child given adds.more adds.holds moment reply (subst L (sym there.grown) there.resumes);
       }
   resumes_all (Err error) moment reply had same resumes adds = tt
 

@@ -1,7 +1,7 @@
 pub mod JoinedLemmas
 pub mod ReplaysLemmas
 pub mod OwedLemmas
-pub mod ParkedLemmas
+pub mod BehindDial
 pub mod OrderLemmas
 pub mod SilentLemmas
 pub mod ClientLemmas

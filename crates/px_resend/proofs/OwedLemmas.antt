@@ -13,11 +13,12 @@ use Rattle.px_exchange.specs.declared.terms.Terms.{Terms}
 use Rattle.px_exchange.specs.Endings.{shut_server}
 use Rattle.px_chain.specs.Chain.{look as look_of}
 use Rattle.px_chain.specs.Sights.{Sight, server_in}
-use Rattle.px_chain.specs.Stages.{busy, connection, given_body, given_head, idle, next, request_body, response_body, response_head, upgraded}
+use Rattle.px_chain.specs.Stages.{busy, idle, next}
 use Rattle.px_chain.specs.Stages as flows
 use Rattle.px_chain.proofs.Quiet.{AllQuiet, IsOf, LooksQuiet, any_flow}
 use Rattle.px_chain.proofs.QuietLemmas.{IsGoing, finds_quiet_end}
 use Rattle.px_resend.specs.Chain.{look_by, to_servers_in}
+use Rattle.px_resend.specs.Found.{found_by}
 use Rattle.px_resend.specs.Heard.{to_servers}
 
 -- what is quiet stays so
@@ -62,16 +63,9 @@ flow_left terms stage seen = look_left (look_of terms stage seen) (finds_quiet_e
 
 -- and so is what is found where the flow goes on
 pub found_quiet : (terms : Terms) (stage : flows.Stage) (seen : Sight) → LooksQuiet any_flow (look_by stage seen (look_of terms stage seen))
-found_quiet terms (idle at) seen = tt
-found_quiet terms (busy at flow (request_body given)) seen = flow_left terms (busy at flow (request_body given)) seen
-found_quiet terms (busy at flow connection) seen = flow_left terms (busy at flow connection) seen
-found_quiet terms (busy at flow (response_head side how)) seen = flow_left terms (busy at flow (response_head side how)) seen
-found_quiet terms (busy at flow (response_body side how)) seen = flow_left terms (busy at flow (response_body side how)) seen
-found_quiet terms (busy at flow (upgraded side)) seen = (tt, shut_quiet (server_in side seen))
-found_quiet terms (busy at flow given_head) seen = flow_left terms (busy at flow given_head) seen
-found_quiet terms (busy at flow given_body) seen = flow_left terms (busy at flow given_body) seen
-found_quiet terms (next at) seen = tt
-found_quiet terms flows.over seen = tt
+found_quiet terms stage seen =
+    let P : Look Command → Type 0 = LooksQuiet any_flow in
+    found_by P stage seen (look_of terms stage seen) (λ at is. tt) (λ at flow server is. (tt, shut_quiet (server_in server seen))) (flow_left terms stage seen)
 
 -- A flow has begun, and is not finished.
 abbrev pub IsBusy : flows.Stage → Type 0
@@ -92,18 +86,20 @@ asked_left (Ends owed) ask is = absurd (let no : Ends (to_servers owed) ≡ Asks
 ended_asks : (owed : List Command) (ask : Command) → Ends owed ≡ Asks ask → ⊥
 ended_asks owed ask is = cc
 
+asks_busy : (terms : Terms) (stage : flows.Stage) (seen : Sight) (ask : Command) → look_by stage seen (look_of terms stage seen) ≡ Asks ask → IsBusy stage
+asks_busy terms (idle at) seen ask is = absurd (ended_asks [] ask is)
+asks_busy terms (busy at flow doing) seen ask is = tt
+asks_busy terms (next at) seen ask is = absurd (ended_asks [] ask is)
+asks_busy terms flows.over seen ask is = absurd (ended_asks [] ask is)
+
 -- what asks is a flow that the chain of flows asks about
 pub asked_there : (terms : Terms) (stage : flows.Stage) (seen : Sight) (ask : Command) → look_by stage seen (look_of terms stage seen) ≡ Asks ask → IsBusy stage × (look_of terms stage seen ≡ Asks ask)
-asked_there terms (idle at) seen ask is = absurd (ended_asks [] ask is)
-asked_there terms (busy at flow (request_body given)) seen ask is = (tt, asked_left _ ask is)
-asked_there terms (busy at flow connection) seen ask is = (tt, asked_left _ ask is)
-asked_there terms (busy at flow (response_head side how)) seen ask is = (tt, asked_left _ ask is)
-asked_there terms (busy at flow (response_body side how)) seen ask is = (tt, asked_left _ ask is)
-asked_there terms (busy at flow (upgraded side)) seen ask is = absurd (ended_asks _ ask is)
-asked_there terms (busy at flow given_head) seen ask is = (tt, asked_left _ ask is)
-asked_there terms (busy at flow given_body) seen ask is = (tt, asked_left _ ask is)
-asked_there terms (next at) seen ask is = absurd (ended_asks [] ask is)
-asked_there terms flows.over seen ask is = absurd (ended_asks [] ask is)
+asked_there terms stage seen ask is =
+    let P : Look Command → Type 0 = λ k. k ≡ Asks ask → look_of terms stage seen ≡ Asks ask in (
+      asks_busy terms stage seen ask is,
+      found_by P stage seen (look_of terms stage seen) (λ at here asked. absurd (ended_asks _ ask asked)) (λ at flow server here asked. absurd (ended_asks _ ask asked))
+          (asked_left (look_of terms stage seen) ask) is,
+    )
 
 -- any number is a stage's own
 pub is_any : (terms : Terms) (stage : flows.Stage) → IsOf terms any_flow stage

@@ -23,13 +23,14 @@ use Rattle.px_exchange.specs.Replies.{taken_at_request_head, taken_at_request_bo
 use Rattle.px_chain.specs.Chain.{is_sequence, sequence}
 use Rattle.px_chain.specs.Sights.{Sight, server_in, sight_over}
 use Rattle.px_chain.specs.Silent.{NoAnswer, connects}
-use Rattle.px_chain.specs.Stages.{busy, connection, given_body, given_head, idle, next, request_body, response_body, response_head, side_in, upgraded}
+use Rattle.px_chain.specs.Stages.{side_in}
 use Rattle.px_chain.specs.Stages as flows
 use Rattle.px_chain.proofs.CountedLemmas.{Counts, CountsServers, IsSilent, counted_silent}
 use Rattle.px_chain.proofs.SilentLemmas.{AreBelow, SideBelow, dialled_at, http_counts, turns_counted}
-use Rattle.px_stream.specs.GoingOn.{doing_by}
+use Rattle.px_stream.specs.Anywhere.{doing_by}
 use Rattle.px_resend.specs.Chain.{Stage, asks_head, asks_whole, first_at, flows_of, goes_on, look_by, over, pass, resend_chain, terms_by, to_servers_in, turn_head, turn_whole, waiting}
 use Rattle.px_resend.specs.Due.{resend_due}
+use Rattle.px_resend.specs.Found.{found_by}
 use Rattle.px_resend.specs.Heard.{all_of_servers}
 use Rattle.px_resend.proofs.OwedLemmas.{server_line}
 
@@ -61,16 +62,9 @@ module _ (server : ℕ) where
   left_silent (Ends owed) silent = ap bytes_in (server_line server owed) ∙ silent
 
   look_silent : (stage : flows.Stage) (seen : Sight) (l : Look Command) → IsSilent server (found l) → IsSilent server (found (look_by stage seen l))
-  look_silent (idle at) seen l silent = refl
-  look_silent (busy at flow (request_body given)) seen l silent = left_silent l silent
-  look_silent (busy at flow connection) seen l silent = left_silent l silent
-  look_silent (busy at flow (response_head side how)) seen l silent = left_silent l silent
-  look_silent (busy at flow (response_body side how)) seen l silent = left_silent l silent
-  look_silent (busy at flow (upgraded side)) seen l silent = shut_silent (server_in side seen)
-  look_silent (busy at flow given_head) seen l silent = left_silent l silent
-  look_silent (busy at flow given_body) seen l silent = left_silent l silent
-  look_silent (next at) seen l silent = left_silent l silent
-  look_silent flows.over seen l silent = left_silent l silent
+  look_silent stage seen l silent =
+      let P : Look Command → Type 0 = λ k. IsSilent server (found k) in
+      found_by P stage seen l (λ at is. refl) (λ at flow side is. shut_silent (server_in side seen)) (left_silent l silent)
 
 -- ---- the chain
 

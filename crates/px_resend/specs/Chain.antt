@@ -26,12 +26,12 @@ use Rattle.px_exchange.specs.Flows.{ask_of, with_body}
 use Rattle.px_exchange.specs.Places.{terms_of}
 use Rattle.px_exchange.specs.Replies.{taken_at_request_head, taken_at_request_body}
 use Rattle.px_exchange.specs.Requests.{flow_of}
-use Rattle.px_chain.specs.Chain.{http_chain, sequence}
+use Rattle.px_chain.specs.Chain.{begin, http_chain, sequence}
 use Rattle.px_chain.specs.Sights.{Sight, Standing, server_in, sight_over}
 use Rattle.px_chain.specs.Stages.{At, Doing, busy, idle, upgraded}
 use Rattle.px_chain.specs.Stages as flows
 use Rattle.px_chain.specs.Streams.{from_here}
-use Rattle.px_stream.specs.GoingOn.{doing_by}
+use Rattle.px_stream.specs.Anywhere.{doing_by}
 use Rattle.px_resend.specs.Heard.{all_of_servers, to_servers}
 
 -- Where it stands.
@@ -75,13 +75,16 @@ whole_flow request flow = with_body flow request.body request.trailers flow.time
 
 -- ---- behind the request's hooks
 
--- it is the first flow, nothing was dialled, and no byte of a client used
+-- it is the first flow, and nothing was dialled
 abbrev pub first_at : At
-first_at = record { flow = 0; dials = 0; used = 0; parked = None }
+first_at = record { flow = 0; dials = 0; parked = None }
 
--- the flow goes on at this moment
+-- the flow goes on at this moment: no byte is used before
+abbrev pub going_at : Flow → ℕ → List (Timed Event) → Standing
+going_at flow moment prefix = record (begin (busy first_at flow (doing_by flow.response))) { since = from_here moment prefix }
+
 abbrev pub going : Flow → ℕ → List (Timed Event) → Stage
-going flow moment prefix = goes_on (record { stage = busy first_at flow (doing_by flow.response); since = from_here moment prefix; opened = 0 })
+going flow moment prefix = goes_on (going_at flow moment prefix)
 
 abbrev pub leads_to : Stage → Turn Stage Command
 leads_to stage = record { owed = []; stage = stage }
@@ -111,7 +114,7 @@ to_servers_in (Asks ask) = Asks ask
 to_servers_in (Ends owed) = Ends (to_servers owed)
 
 abbrev pub look_for : Flow → Doing → Sight → Look Command → Look Command
-look_for flow (upgraded side) seen found = Ends (finishes flow (shut_server (server_in side seen)))
+look_for flow (upgraded server) seen found = Ends (finishes flow (shut_server (server_in server seen)))
 look_for flow doing seen found = to_servers_in found
 
 -- where the next flow would begin, its own is finished

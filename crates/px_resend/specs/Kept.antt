@@ -4,8 +4,7 @@ use Rattle.px_event.specs.declared.ask.Ask.{Ask}
 use Rattle.px_event.specs.declared.ask.Hook.TheVariants.{RequestHead, RequestBody}
 use Rattle.px_exchange.specs.Flows.{hook_of}
 use Rattle.px_chain.specs.Left.{behind_left}
-use Rattle.px_stream.specs.Kept.{stream_keeps}
-use Rattle.px_stream.specs.Left.{sequence_left}
+use Rattle.px_stream.specs.Tells.{sequence_left, stream_keeps}
 use Rattle.px_stream.specs.Stands.{awaits}
 use Rattle.px_resend.specs.declared.child.Child.{Child}
 use Rattle.px_resend.specs.declared.child.Child.TheVariants as children

@@ -13,11 +13,11 @@ use Rattle.px_message.specs.declared.request.Request.{Request}
 use Rattle.px_exchange.specs.declared.terms.Terms.{Terms}
 use Rattle.px_chain.specs.Chain.{sequence}
 use Rattle.px_chain.specs.Sights.{Sight, Standing, sight_over}
-use Rattle.px_chain.specs.Stages.{busy, connection, given_body, given_head, idle, next, request_body, response_body, response_head, upgraded}
 use Rattle.px_chain.specs.Stages as flows
 use Rattle.px_chain.proofs.ChainLaws.{settles}
-use Rattle.px_stream.specs.StateLaws.{awaits_what_it_asks}
+use Rattle.px_stream.proofs.StateLaws.{awaits_what_it_asks}
 use Rattle.px_resend.specs.Chain.{Stage, asks_head, asks_whole, flows_of, goes_on, look_by, over, pass, resend_chain, to_servers_in, waiting}
+use Rattle.px_resend.specs.Found.{found_by}
 use Rattle.px_resend.specs.Heard.{all_of_servers, to_servers}
 use Rattle.px_resend.specs.Kept.{awaited_by, is_over}
 use Rattle.px_resend.specs.Names.{resend_names}
@@ -34,16 +34,9 @@ same_in (Ends owed) goes = absurd (goes (to_servers owed) refl)
 
 -- unless it ends, it is what the flow's chain finds
 pub same_unless : (stage : flows.Stage) (seen : Sight) (l : Look Command) → ((owed : List Command) → look_by stage seen l ≡ Ends owed → ⊥) → look_by stage seen l ≡ l
-same_unless (idle at) seen l goes = absurd (goes _ refl)
-same_unless (busy at flow (request_body given)) seen l goes = same_in l goes
-same_unless (busy at flow connection) seen l goes = same_in l goes
-same_unless (busy at flow (response_head side how)) seen l goes = same_in l goes
-same_unless (busy at flow (response_body side how)) seen l goes = same_in l goes
-same_unless (busy at flow (upgraded side)) seen l goes = absurd (goes _ refl)
-same_unless (busy at flow given_head) seen l goes = same_in l goes
-same_unless (busy at flow given_body) seen l goes = same_in l goes
-same_unless (next at) seen l goes = same_in l goes
-same_unless flows.over seen l goes = same_in l goes
+same_unless stage seen l goes =
+    let P : Look Command → Type 0 = λ k. ((owed : List Command) → k ≡ Ends owed → ⊥) → k ≡ l in
+    found_by P stage seen l (λ at is ends. absurd (ends _ refl)) (λ at flow server is ends. absurd (ends _ refl)) (same_in l) goes
 
 pub asks_as : (stage : flows.Stage) (seen : Sight) (l : Look Command) (ask : Command) → look_by stage seen l ≡ Asks ask → l ≡ Asks ask
 asks_as stage seen l ask is =

@@ -1,6 +1,7 @@
 pub mod Chain
 pub mod Dialled
 pub mod Due
+pub mod Found
 pub mod Heard
 pub mod Joined
 pub mod JoinedLaws

@@ -1,5 +1,5 @@
 -- What is due of a request that is sent again names its conversation alone.
-use Rattle.std.proofs.Common.{◌≡◌, ℕ, Bool, true, false, List, [], ◌∷◌, refl}
+use Rattle.std.proofs.Common.{◌≡◌, ℕ, Bool, true, false, List, [], ◌∷◌, refl, subst}
 use Rattle.std.specs.Prelude.{if◌then◌else◌}
 use Rattle.px_message.specs.declared.flow.Flow.{Flow}
 use Rattle.px_message.specs.declared.request.Request.{Request}
@@ -19,11 +19,11 @@ use Rattle.px_exchange.specs.declared.terms.Terms.{Terms}
 use Rattle.px_exchange.specs.Endings.{shut_server}
 use Rattle.px_exchange.specs.Replies.{taken_at_request_body, taken_at_request_head}
 use Rattle.px_chain.specs.Sights.{Sight, server_in, sight_over}
-use Rattle.px_chain.specs.Stages.{busy, connection, given_body, given_head, idle, next, request_body, response_body, response_head, upgraded}
 use Rattle.px_chain.specs.Stages as flows
 use Rattle.px_chain.proofs.Quiet.{IsOf}
 use Rattle.px_http.specs.Names.{IsOfIts, OfConversation, stays}
 use Rattle.px_resend.specs.Chain.{Stage, asks_head, asks_whole, flows_of, goes_on, look_by, over, resend_chain, to_servers_in, turn_head, turn_whole, waiting}
+use Rattle.px_resend.specs.Found.{found_by}
 use Rattle.px_resend.specs.Heard.{all_of_servers, is_to_client, to_servers}
 
 -- ---- what is said to servers alone
@@ -51,16 +51,10 @@ shut_named conv (ByServer number false) = (tt, tt)
 module _ (terms : Terms) (recorded : Request) where
   look_named : (stage : flows.Stage) (seen : Sight) (l : Look Command) → IsOf terms (OfConversation terms.conv) stage → AllNamed terms.conv (found l) →
       AllNamed terms.conv (found (look_by stage seen l))
-  look_named (idle at) seen l is all = tt
-  look_named (busy at flow (request_body given)) seen l is all = look_kept terms.conv l all
-  look_named (busy at flow connection) seen l is all = look_kept terms.conv l all
-  look_named (busy at flow (response_head side how)) seen l is all = look_kept terms.conv l all
-  look_named (busy at flow (response_body side how)) seen l is all = look_kept terms.conv l all
-  look_named (busy at flow (upgraded side)) seen l is all = (is, shut_named terms.conv (server_in side seen))
-  look_named (busy at flow given_head) seen l is all = look_kept terms.conv l all
-  look_named (busy at flow given_body) seen l is all = look_kept terms.conv l all
-  look_named (next at) seen l is all = look_kept terms.conv l all
-  look_named flows.over seen l is all = look_kept terms.conv l all
+  look_named stage seen l is all =
+      let P : Look Command → Type 0 = λ k. AllNamed terms.conv (found k) in
+      let Q : flows.Stage → Type 0 = IsOf terms (OfConversation terms.conv) in
+      found_by P stage seen l (λ at here. tt) (λ at flow server here. (subst Q here is, shut_named terms.conv (server_in server seen))) (look_kept terms.conv l all)
 
   -- the flow of a stage is the conversation's
   abbrev pub IsIts : Stage → Type 0

@@ -1,5 +1,5 @@
 -- What a request that is sent again stands for.
-use Rattle.std.specs.Prelude.{◌≡◌, List, [], Option}
+use Rattle.std.specs.Prelude.{◌≡◌, List, [], Option, None, ⊤}
 use Rattle.std.specs.Global.{Box}
 use Rattle.px_message.specs.declared.request.Request.{Request}
 use Rattle.px_event.specs.declared.ask.Ask.{Ask}
@@ -11,8 +11,10 @@ use Rattle.px_event.specs.Layer.{Move}
 use Rattle.px_event.specs.Stands.{StandsAt}
 use Rattle.px_exchange.specs.declared.terms.Terms.{Terms}
 use Rattle.px_chain.specs.Sights.{Standing}
+use Rattle.px_chain.specs.Stages.{At, busy, connection, request_body}
+use Rattle.px_chain.specs.Stages as flows
 use Rattle.px_stream.specs.declared.stream.Stream.{Stream}
-use Rattle.px_stream.specs.Sequence.{IsInSequence}
+use Rattle.px_stream.specs.Anywhere.{IsInSequence}
 use Rattle.px_resend.specs.Chain.{Stage, asks_head, asks_whole, goes_on, over, resend_chain, terms_by, waiting}
 use Rattle.px_resend.specs.Heard.{all_of_servers}
 use Rattle.px_resend.specs.Kept.{awaited_by}
@@ -28,11 +30,25 @@ terms_in made = terms_by made.conv made.proxy
 abbrev pub chain_of : Resend → Chain Stage Event Reply Command
 chain_of made = resend_chain (terms_in made) made.request
 
+-- The flow's request is read no more: this holds where its server is dialled, and that behind it.
+abbrev pub ByDial : (At → Type 0) → Type 0 → flows.Stage → Type 0
+ByDial dialling behind (busy at flow (request_body given)) = ⊥
+ByDial dialling behind (busy at flow connection) = dialling at
+ByDial dialling behind stage = behind
+
+-- where its server is dialled no side is parked
+abbrev pub NoneParked : At → Type 0
+NoneParked at = at.parked ≡ None
+
+abbrev pub IsUnparked : flows.Stage → Type 0
+IsUnparked stage = ByDial NoneParked ⊤ stage
+
 -- the stream of a flow that goes on, at this place
 pub record IsGoing (terms : Terms) (place : Standing) (prefix : List (Timed Event)) (child : Child) : Type 0 where
   pub stream : Box Stream
   pub is : child ≡ children.GoesOn stream
   pub there : IsInSequence terms 0 stream.value place (all_of_servers prefix)
+  pub unparked : IsUnparked place.stage
 
 -- it has not begun only while nothing was heard of it
 abbrev pub Keeps : Terms → Child → Stage → List (Timed Event) → Type 0

@@ -15,8 +15,7 @@ use Rattle.px_exchange.specs.declared.outcome.Outcome.{Outcome}
 use Rattle.px_exchange.specs.declared.outcome.Outcome.TheVariants as outcomes
 use Rattle.px_exchange.specs.declared.terms.Terms.{Terms}
 use Rattle.px_exchange.specs.Endings.{shut_server}
-use Rattle.px_stream.specs.Rests.{phase_flow}
-use Rattle.px_stream.specs.Sequence.{is_idle, outcome_in, upgraded_side}
+use Rattle.px_stream.specs.Tells.{is_idle, outcome_in, phase_flow, upgraded_side}
 use Rattle.px_stream.specs.declared.stream.Stream.{Stream}
 use Rattle.px_resend.specs.Chain.{Stage, going, resend_chain}
 use Rattle.px_resend.specs.Heard.{all_of_servers}
@@ -68,7 +67,7 @@ finished_by flow used = done_by flow ++ shut_by used
 abbrev pub FollowsAs : Bool → Outcome → Box Stream → Child → List Command → Type 0
 FollowsAs true outcome stream next more = (next ≡ children.Over) × (more ≡ [])
 FollowsAs false outcomes.Going stream next more = (next ≡ children.GoesOn stream) × (more ≡ [])
-FollowsAs false outcomes.Upgraded stream next more = (next ≡ children.Over) × (more ≡ finished_by (phase_flow stream.value.phase) (upgraded_side stream.value.phase))
+FollowsAs false outcomes.Upgraded stream next more = (next ≡ children.Over) × (more ≡ finished_by (phase_flow stream.value.phase) (upgraded_side stream.value.phase stream.value.side))
 FollowsAs false outcome stream next more = (next ≡ children.Over) × (more ≡ [])
 
 abbrev pub Follows : Box Stream → Child → List Command → Type 0

@@ -5,9 +5,11 @@ ghost use Rattle.px_core.specs.Calls.{number_end};
 ghost use Rattle.px_event.specs.declared.ask.Hook.TheVariants.{RequestBody as AtWhole};
 ghost use Rattle.px_exchange.specs.Endings.{shut_server};
 ghost use Rattle.px_exchange.specs.Flows.{ask_of};
-ghost use Rattle.px_stream.specs.Rests.{phase_flow};
-ghost use Rattle.px_stream.specs.Sequence.{outcome_in, upgraded_side};
+ghost use Rattle.px_stream.specs.Anywhere.{Somewhere, TakesAnywhere};
+ghost use Rattle.px_stream.specs.Stands.{awaits as stream_awaits};
+ghost use Rattle.px_stream.specs.Tells.{outcome_in, phase_flow, sequence_left, upgraded_side};
 ghost use Rattle.px_resend.specs.Chain.{killed, proxy_in, whole_flow};
+ghost use Rattle.px_resend.specs.Heard.{of_servers};
 ghost use Rattle.px_resend.specs.Kept.{awaited_by, going_left, left_by};
 ghost use Rattle.px_resend.specs.Stands.{IsSomewhere, ResendStands, awaits, terms_in};
 ghost use Rattle.px_resend.specs.Steps.{Adds, Follows, GoesOnAs, ResumesChild, TakesChild, done_by, finished_by, shut_by};
@@ -142,7 +144,7 @@ impl Resend {
     {
         let mut stream = stream;
         let mut given = Vec::new(self.alloc);
-        stream.take_anywhere(moment, of_servers(event), &mut given)?;
+        take_heard(&mut stream, moment, event, &mut given)?;
         pass_on(given, out)?;
         follow(stream, out)
     }
@@ -235,7 +237,7 @@ impl Resend {
             conv: self.conv,
             index: 0,
         };
-        let mut stream = Stream::new(self.alloc, id, None, place_of(&self.proxy)?, 0);
+        let mut stream = Stream::new(self.alloc, id, None, place_of(&self.proxy)?, 0)?;
         let mut given = Vec::new(self.alloc);
         stream.go_on_with(moment, flow, &mut given)?;
         pass_on(given, out)?;
@@ -284,6 +286,23 @@ impl Resend {
     }
 }
 
+// The stream takes the event; what is heard of a client says nothing.
+fn take_heard(
+    stream: &mut Stream,
+    moment: u64,
+    event: Event,
+    out: &mut Vec<Command>,
+) -> Result<(), NoMemory>
+    requires somewhere { Somewhere stream.old }
+    requires free { stream_awaits stream.old ≡ None }
+    ensures takes { OnOk result (TakesAnywhere stream.old stream.new moment (of_servers event) out.old.items out.new.items) }
+    ensures asks { OnOk result (AsksOnly (stream_awaits stream.new) out.old.items out.new.items) }
+    ensures left { OnOk result (sequence_left stream.new ≤ sequence_left stream.old) }
+{
+    let heard = of_servers(event);
+    stream.take_anywhere(moment, &heard, out)
+}
+
 fn copy_address(address: &Option<Address>) -> Result<Option<Address>, NoMemory>
     ensures { IfOk result (λ copy. copy ≡ address.now) }
 {
@@ -311,7 +330,7 @@ fn follow(stream: Box<Stream>, out: &mut Vec<Command>) -> Result<Child, NoMemory
 fn finish(stream: Box<Stream>, out: &mut Vec<Command>) -> Result<Child, NoMemory>
     requires upgraded { outcome_in stream.value.phase ≡ Outcome.Upgraded }
     ensures over { IfOk result (λ next. next ≡ Child.Over) }
-    ensures gives { OnOk result (out.new.items ≡ out.old.items ++ finished_by (phase_flow stream.value.phase) (upgraded_side stream.value.phase)) }
+    ensures gives { OnOk result (out.new.items ≡ out.old.items ++ finished_by (phase_flow stream.value.phase) (upgraded_side stream.value.phase stream.value.side)) }
 {
     let used = stream.upgraded();
     let (rests, flow) = Box::into_inner(stream).into_rests()?;

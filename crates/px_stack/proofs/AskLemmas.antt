@@ -22,7 +22,7 @@ use Rattle.px_exchange.specs.declared.place.Place.{Place}
 use Rattle.px_exchange.specs.Endings.{refuses}
 use Rattle.px_exchange.specs.declared.terms.Terms.{Terms}
 use Rattle.px_exchange.specs.Places.{address_of, dialled_for, terms_of}
-use Rattle.px_chain.specs.Chain.{look as look_of, new_side}
+use Rattle.px_chain.specs.Chain.{look as look_of}
 use Rattle.px_chain.specs.Sights.{Standing, sight_over}
 use Rattle.px_chain.specs.Stages.{At, busy, connection, place_of, unparked}
 use Rattle.px_chain.specs.Stages as stages
@@ -30,7 +30,7 @@ use Rattle.px_chain.specs.Streams.{bytes_of, client_closed, from_here, is_closed
 use Rattle.px_chain.proofs.FrontLaws.{now_here}
 use Rattle.px_http.specs.declared.conversation.HttpConv.{HttpConv}
 use Rattle.px_stream.specs.Anywhere.{OpensInTime}
-use Rattle.px_stream.specs.Through.{led_to}
+use Rattle.px_stream.specs.Tells.{led_to}
 use Rattle.px_tunnel.specs.declared.upstream.UpstreamTunnel.{UpstreamTunnel}
 use Rattle.px_tunnel.specs.Reaching.{HasHeard}
 use Rattle.px_tunnel.specs.Upstream.{connect_text}
@@ -52,7 +52,7 @@ use Rattle.px_stack.proofs.TellLemmas.{behind_sent}
 
 module _ (conv : ℕ) (client : Visitor) (goal : Goal) (server : ℕ) (prefix : List (Timed Event)) (moment : ℕ) where
   abbrev new_link : Link
-  new_link = record { side = new_side server; opened = length prefix }
+  new_link = record { server = server; used = 0; opened = length prefix }
 
   -- its answer is awaited
   asks_there : (kept : KeptGoal) (number : ℕ) (closed : Bool) (next : Child) → number ≡ server → closed ≡ client_closed prefix → IsAsking kept number closed next →
@@ -97,7 +97,7 @@ is_dialled tunnel prefix kept closed there =
 
 -- one server more
 abbrev pub counted : Opening → Opening
-counted kept = record kept { numbers = record kept.numbers { server = kept.numbers.server + 1 } }
+counted kept = record kept { dials = kept.dials + 1 }
 
 module _ (conv : ℕ) (client : Visitor) (kept : Opening) (closed : Bool) where
   none_kept : (stage : Stage) (prefix : List (Timed Event)) → (Keeps conv client (children.Connecting kept closed) stage prefix → ⊥) →
@@ -123,12 +123,12 @@ module _ (conv : ℕ) (client : Visitor) (kept : Opening) (closed : Bool) where
   at_dial P over prefix there goes = absurd (none_kept over prefix (λ at. at) (Ends []) there)
 
   -- its servers are few
-  pub dials_few : IsSomewhere conv client (children.Connecting kept closed) → IsFewDials (counted kept) kept.numbers.server
+  pub dials_few : IsSomewhere conv client (children.Connecting kept closed) → IsFewDials (counted kept) kept.dials
   dials_few (stage, prefix, there) =
-      at_dial (λ s. IsFewDials (counted kept) kept.numbers.server) stage prefix there
+      at_dial (λ s. IsFewDials (counted kept) kept.dials) stage prefix there
       (λ tunnel at.
       let flow = at.opening.flow in
-      let server = at.opening.server in
+      let same = at.opening.dials in
       let few = at.opening.few in
       let dials = at.dials in
       record { few = omega arith; last = refl; dials = omega arith })
@@ -136,7 +136,7 @@ module _ (conv : ℕ) (client : Visitor) (kept : Opening) (closed : Bool) where
   counted_opening : (tunnel : Tunnel) (prefix : List (Timed Event)) → IsOpening tunnel prefix kept → IsOpening (dialled_more conv client tunnel) prefix (counted kept)
   counted_opening tunnel prefix opening = record {
     flow = opening.flow;
-    server = ap (λ n. n + 1) opening.server;
+    dials = ap (λ n. n + 1) opening.dials;
     address = opening.address;
     proxy = opening.proxy;
     rest = opening.rest;
@@ -162,13 +162,13 @@ module _ (conv : ℕ) (client : Visitor) (kept : Opening) (closed : Bool) where
 
     -- the server itself
     connected_decides : (rest : List ℕ) → rest ≡ [] → (tunnel : Tunnel) (prefix : List (Timed Event)) → IsDialled tunnel prefix kept closed →
-        MayDecide (dialled_more conv client tunnel) (record { side = new_side tunnel.at.dials; opened = length prefix }) (from_here moment prefix) prefix (counted kept) kept.numbers.server rest closed moment
+        MayDecide (dialled_more conv client tunnel) (record { server = tunnel.at.dials; used = 0; opened = length prefix }) (from_here moment prefix) prefix (counted kept) kept.dials rest closed moment
     connected_decides rest empty tunnel prefix at =
         let none = drop_all (length prefix) prefix (omega arith) in
         record {
           opened = record {
             opening = counted_opening tunnel prefix at.opening;
-            same = at.opening.server;
+            same = at.opening.dials;
             last = refl;
             dials = at.dials;
             opened = omega arith;
@@ -181,12 +181,12 @@ module _ (conv : ℕ) (client : Visitor) (kept : Opening) (closed : Bool) where
           now = sym (now_here moment prefix);
         }
 
-    pub resumes_told : (rest : List ℕ) (more : List Command) → rest ≡ [] → kept.proxy ≡ None → Tells conv client (counted kept) kept.numbers.server rest closed moment next more →
+    pub resumes_told : (rest : List ℕ) (more : List Command) → rest ≡ [] → kept.proxy ≡ None → Tells conv client (counted kept) kept.dials rest closed moment next more →
         ResumesChild conv client (children.Connecting kept closed) next moment reply.Dialled more
     resumes_told rest more empty direct tells stage prefix there =
         at_dial (λ s. Resumes (stack_chain conv client) (IsChild conv client) next moment reply.Dialled more s prefix) stage prefix there
         (λ tunnel at.
-        let link : Link = record { side = new_side tunnel.at.dials; opened = length prefix } in
+        let link : Link = record { server = tunnel.at.dials; used = 0; opened = length prefix } in
         let to = tells (dialled_more conv client tunnel) link (from_here moment prefix) prefix (connected_decides rest empty tunnel prefix at) in
         resumes_by tunnel prefix reply.Dialled more (turn_connected conv client None tunnel prefix moment)
         (ap (λ p. turn_connected conv client p tunnel prefix moment) (sym at.opening.proxy ∙ direct)) to.there to.gives)
@@ -196,24 +196,24 @@ module _ (conv : ℕ) (client : Visitor) (kept : Opening) (closed : Bool) where
         IsAskedFor (dialled_more conv client tunnel) (new_link conv client (a_tunnel (dialled_more conv client tunnel)) tunnel.at.dials prefix moment) prefix (counted kept) closed
     asked_for tunnel prefix at = record { opening = counted_opening tunnel prefix at.opening; last = refl; dials = at.dials; client = at.client }
 
-    asked_there : IsAsking (goals.Tunnel (counted kept) closed) kept.numbers.server closed next → (tunnel : Tunnel) (prefix : List (Timed Event)) (proxy : Address) →
+    asked_there : IsAsking (goals.Tunnel (counted kept) closed) kept.dials closed next → (tunnel : Tunnel) (prefix : List (Timed Event)) (proxy : Address) →
         tunnel.proxy ≡ Some proxy → IsDialled tunnel prefix kept closed →
-        Resumes (stack_chain conv client) (IsChild conv client) next moment reply.Dialled (commands.Send (Server kept.numbers.server) (connect_text kept.address) ∷ []) (connecting tunnel) prefix
+        Resumes (stack_chain conv client) (IsChild conv client) next moment reply.Dialled (commands.Send (Server kept.dials) (connect_text kept.address) ∷ []) (connecting tunnel) prefix
     asked_there asks tunnel prefix proxy through at =
         let goal : Goal = a_tunnel (dialled_more conv client tunnel) in
         let turned : Turn Stage Command = turn_connected conv client (Some proxy) tunnel prefix moment in
-        let to = asks_there conv client goal tunnel.at.dials prefix moment (goals.Tunnel (counted kept) closed) kept.numbers.server closed next at.opening.server at.client asks
+        let to = asks_there conv client goal tunnel.at.dials prefix moment (goals.Tunnel (counted kept) closed) kept.dials closed next at.opening.dials at.client asks
         (asked_for tunnel prefix at) in
-        resumes_by tunnel prefix reply.Dialled (commands.Send (Server kept.numbers.server) (connect_text kept.address) ∷ []) turned (ap (λ p. turn_connected conv client p tunnel prefix moment) through) to.there
+        resumes_by tunnel prefix reply.Dialled (commands.Send (Server kept.dials) (connect_text kept.address) ∷ []) turned (ap (λ p. turn_connected conv client p tunnel prefix moment) through) to.there
         (λ view.
-        ap (λ n. seen_of view (commands.Send (Server n) (connect_text kept.address) ∷ [])) at.opening.server
+        ap (λ n. seen_of view (commands.Send (Server n) (connect_text kept.address) ∷ [])) at.opening.dials
         ∙ (ap (λ a. seen_of view (commands.Send (Server tunnel.at.dials) (connect_text a) ∷ [])) at.opening.address
         ∙ behind_sent conv client view turned.owed [] turned.stage prefix (to.gives view)))
 
-    pub resumes_asked : (proxy : Address) → kept.proxy ≡ Some proxy → IsAsking (goals.Tunnel (counted kept) closed) kept.numbers.server closed next →
-        ResumesChild conv client (children.Connecting kept closed) next moment reply.Dialled (commands.Send (Server kept.numbers.server) (connect_text kept.address) ∷ [])
+    pub resumes_asked : (proxy : Address) → kept.proxy ≡ Some proxy → IsAsking (goals.Tunnel (counted kept) closed) kept.dials closed next →
+        ResumesChild conv client (children.Connecting kept closed) next moment reply.Dialled (commands.Send (Server kept.dials) (connect_text kept.address) ∷ [])
     resumes_asked proxy through asks stage prefix there =
-        at_dial (λ s. Resumes (stack_chain conv client) (IsChild conv client) next moment reply.Dialled (commands.Send (Server kept.numbers.server) (connect_text kept.address) ∷ []) s prefix) stage prefix there
+        at_dial (λ s. Resumes (stack_chain conv client) (IsChild conv client) next moment reply.Dialled (commands.Send (Server kept.dials) (connect_text kept.address) ∷ []) s prefix) stage prefix there
         (λ tunnel at. asked_there asks tunnel prefix proxy (sym at.opening.proxy ∙ through) at)
 
     pub resumes_refused : (fault : Fault) (more : List Command) → next ≡ children.Over → more ≡ refuses fault false NoServer closed →
@@ -238,12 +238,12 @@ module _ (conv : ℕ) (client : Visitor) (boxed : Box HttpConv) (moment : ℕ) (
       subst P (sym stage) refl
 
   asked_flow : (place : Place) (standing : Standing) (prefix : List (Timed Event)) (address : Address) → IsInFlows conv client place boxed.value standing prefix →
-      InTime standing prefix → IsLed place boxed.value standing address → IsAsking (goals.Flow boxed) boxed.value.stream.numbers.server boxed.value.stream.client_closed next →
+      InTime standing prefix → IsLed place boxed.value standing address → IsAsking (goals.Flow boxed) boxed.value.stream.at.dials boxed.value.stream.client_closed next →
       Resumes (stack_chain conv client) (IsChild conv client) next moment reply.Dialled
-      (commands.Send (Server boxed.value.stream.numbers.server) (connect_text address) ∷ []) (http place standing) prefix
+      (commands.Send (Server boxed.value.stream.at.dials) (connect_text address) ∷ []) (http place standing) prefix
   asked_flow place standing prefix address there in_time led asks =
-      let server : ℕ = boxed.value.stream.numbers.server in
-      let from : Dialling = record { at = unparked led.at; flow = led.flow } in
+      let server : ℕ = boxed.value.stream.at.dials in
+      let from : Dialling = record { at = unparked led.at; used = standing.used.client; flow = led.flow } in
       let terms : Terms = terms_of conv client.address place in
       let dialled : server ≡ led.at.dials = server_there terms (ahead_at place) boxed.value standing prefix led.at led.flow led.stage there in
       let answer : Timed Reply = record { moment = moment; value = reply.Dialled } in
@@ -258,6 +258,7 @@ module _ (conv : ℕ) (client : Visitor) (boxed : Box HttpConv) (moment : ℕ) (
         at = led.at;
         stage = led.stage;
         from_is = refl;
+        used_is = refl;
         there = there;
         in_time = subst Q led.stage in_time;
         dialled = refl;
@@ -276,12 +277,12 @@ module _ (conv : ℕ) (client : Visitor) (boxed : Box HttpConv) (moment : ℕ) (
       }
 
   pub resumes_led : (address : Address) → led_to boxed.value.stream.terms.place boxed.value.stream.phase ≡ Some address →
-      IsAsking (goals.Flow boxed) boxed.value.stream.numbers.server boxed.value.stream.client_closed next →
+      IsAsking (goals.Flow boxed) boxed.value.stream.at.dials boxed.value.stream.client_closed next →
       ResumesChild conv client (children.Http boxed) next moment reply.Dialled
-      (commands.Send (Server boxed.value.stream.numbers.server) (connect_text address) ∷ [])
+      (commands.Send (Server boxed.value.stream.at.dials) (connect_text address) ∷ [])
   resumes_led address led asks stage prefix is =
       let kept = is_kept conv client boxed stage prefix is in
-      let more : List Command = commands.Send (Server boxed.value.stream.numbers.server) (connect_text address) ∷ [] in
+      let more : List Command = commands.Send (Server boxed.value.stream.at.dials) (connect_text address) ∷ [] in
       let P : Stage → Type 0 = λ s. Resumes (stack_chain conv client) (IsChild conv client) next moment reply.Dialled more s prefix in
       subst P (sym kept.is)
       (asked_flow kept.place kept.standing prefix address kept.there kept.in_time
@@ -299,7 +300,7 @@ none_there (Some there) is = absurd (let no : true ≡ false = is in cc)
 
 module _ {E : Type 0} (conv : ℕ) (client : Visitor) (kept : Opening) (closed : Bool) (moment : ℕ) (out longer : List Command) where
   pub told_resumed : (rest : List ℕ) → rest ≡ [] → is_some kept.proxy ≡ false → (result : Result Child E) →
-      IfOk result (λ next. Adds (Tells conv client (counted kept) kept.numbers.server rest closed moment next) out longer) →
+      IfOk result (λ next. Adds (Tells conv client (counted kept) kept.dials rest closed moment next) out longer) →
       IfOk result (λ next. Adds (ResumesChild conv client (children.Connecting kept closed) next moment reply.Dialled) out longer)
   told_resumed rest empty direct (Ok next) tells = record {
     more = tells.more;
@@ -309,12 +310,12 @@ module _ {E : Type 0} (conv : ℕ) (client : Visitor) (kept : Opening) (closed :
   told_resumed rest empty direct (Err error) tells = tt
 
   pub asked_resumed : is_some kept.proxy ≡ true → (result : Result Child E) →
-      IfOk result (λ next. AsksFor (counted kept) kept.numbers.server closed next out longer) →
+      IfOk result (λ next. AsksFor (counted kept) kept.dials closed next out longer) →
       IfOk result (λ next. Adds (ResumesChild conv client (children.Connecting kept closed) next moment reply.Dialled) out longer)
   asked_resumed through (Ok next) asks =
       let (proxy, is) = some_there kept.proxy through in
       record {
-        more = commands.Send (Server kept.numbers.server) (connect_text kept.address) ∷ [];
+        more = commands.Send (Server kept.dials) (connect_text kept.address) ∷ [];
         grown = asks.gives;
         holds = resumes_asked conv client kept closed moment next proxy is asks.next_is;
       }
@@ -355,18 +356,18 @@ other_resumed conv client kept closed moment answer out no_dialled no_refused = 
 
 -- the proxy of a flow was asked
 pub led_resumed : (conv : ℕ) (client : Visitor) (boxed : Box HttpConv) (moment server : ℕ) (closed : Bool) (address : Address) (asked : UpstreamTunnel) (text : List ℕ) (out longer : List Command) →
-    server ≡ boxed.value.stream.numbers.server → closed ≡ boxed.value.stream.client_closed → led_to boxed.value.stream.terms.place boxed.value.stream.phase ≡ Some address → HasHeard asked [] →
+    server ≡ boxed.value.stream.at.dials → closed ≡ boxed.value.stream.client_closed → led_to boxed.value.stream.terms.place boxed.value.stream.phase ≡ Some address → HasHeard asked [] →
     text ≡ connect_text address → longer ≡ out ++ commands.Send (Server server) text ∷ [] →
     Adds (ResumesChild conv client (children.Http boxed) (children.Reaching (record { asked = asked; server = server; closed_before = closed; goal = goals.Flow boxed })) moment reply.Dialled) out longer
 led_resumed conv client boxed moment server closed address asked text out longer same closed_is led heard is sent =
     let next : Child = children.Reaching (record { asked = asked; server = server; closed_before = closed; goal = goals.Flow boxed }) in
     record {
-      more = commands.Send (Server boxed.value.stream.numbers.server) (connect_text address) ∷ [];
+      more = commands.Send (Server boxed.value.stream.at.dials) (connect_text address) ∷ [];
       grown = sent ∙ (ap (λ t. out ++ commands.Send (Server server) t ∷ []) is ∙ ap (λ n. out ++ commands.Send (Server n) (connect_text address) ∷ []) same);
       holds = resumes_led conv client boxed moment next address led (record {
         asked = asked;
         heard = heard;
         is = ap (λ n. children.Reaching (record { asked = asked; server = n; closed_before = closed; goal = goals.Flow boxed })) same
-            ∙ ap (λ c. children.Reaching (record { asked = asked; server = boxed.value.stream.numbers.server; closed_before = c; goal = goals.Flow boxed })) closed_is;
+            ∙ ap (λ c. children.Reaching (record { asked = asked; server = boxed.value.stream.at.dials; closed_before = c; goal = goals.Flow boxed })) closed_is;
       });
     }

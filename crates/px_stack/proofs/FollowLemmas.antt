@@ -1,20 +1,25 @@
 -- What follows HTTP is where the chain is, and gives what it owes beside what HTTP did.
-use Rattle.std.proofs.Common.{◌≡◌, inl, inr, ℕ, ◌+◌, ◌<◌, ◌≤◌, Bool, true, false, List, [], ◌∷◌, ◌++◌, Option, Some, None, refl, ap, sym, ◌∙◌, ap₂, subst, arith, option_to_list}
+use Rattle.std.proofs.Common.{◌≡◌, inl, inr, ℕ, ◌+◌, ◌<◌, ◌≤◌, Bool, true, false, List, [], ◌∷◌, ◌++◌, length, Option, Some, None, refl, ap, sym, ◌∙◌, ap₂, subst, arith, option_to_list}
 use Rattle.std.specs.Prelude.{◌⊎◌, Result, Ok, Err, IfOk, unwrap_or}
 use Rattle.std.specs.Global.{Box}
 use Rattle.std.proofs.lemmas.Grind.{flat_map-append}
-use Rattle.std.proofs.lemmas.List.{append-nil}
+use Rattle.std.proofs.lemmas.List.{append-nil, drop-drop}
 use Rattle.px_message.specs.declared.flow.Flow.{Flow}
 use Rattle.px_event.specs.declared.ask.Ask.{Ask}
 use Rattle.px_event.specs.declared.command.Command.{Command}
 use Rattle.px_event.specs.declared.command.Command.TheVariants as commands
 use Rattle.px_event.specs.declared.event.Event.{Event}
 use Rattle.px_event.specs.declared.event.Rests.{Rests}
+use Rattle.px_event.specs.declared.side.Side.TheVariants.{Client}
 use Rattle.px_event.specs.Chain.{Timed, Look, NotYet, Asks, Ends, Turn, found_with}
 use Rattle.px_event.specs.Laws.{owed_here}
 use Rattle.px_event.specs.Layer.{AsksOnly, asks_in}
 use Rattle.px_event.specs.View.{View, seen_of}
+use Rattle.px_read.specs.Items.{Item, missing, part, complete, bad_head, bad_body}
 use Rattle.px_read.specs.Reader.{State}
+use Rattle.px_read.specs.declared.head.RequestHead.{RequestHead as ReadRequest}
+use Rattle.px_exchange.specs.declared.asked.Judged.{Judged}
+use Rattle.px_exchange.specs.declared.asked.Judged.TheVariants.{Refused, Accepted, Connects}
 use Rattle.px_exchange.specs.declared.ending.Used.TheVariants.{ByServer}
 use Rattle.px_exchange.specs.declared.outcome.Outcome.{Outcome}
 use Rattle.px_exchange.specs.declared.outcome.Outcome.TheVariants as outcomes
@@ -22,22 +27,23 @@ use Rattle.px_exchange.specs.declared.place.Place.{Place}
 use Rattle.px_exchange.specs.declared.place.Place.TheVariants as places
 use Rattle.px_exchange.specs.declared.terms.Terms.{Terms}
 use Rattle.px_exchange.specs.Places.{terms_of}
-use Rattle.px_chain.specs.Chain.{Connect, behind, connect_in, look, sequence, so_far, used_more}
-use Rattle.px_chain.specs.Sights.{Sight, Standing, request_in, sight_over}
-use Rattle.px_chain.specs.Stages.{At, ServerSide, busy, connection, given_body, given_head, idle, next, request_body, response_body, response_head, upgraded}
+use Rattle.px_exchange.specs.Requests.{judged}
+use Rattle.px_chain.specs.Chain.{Connect, behind, connect_by as connect_judged, connect_in, look, sequence, so_far}
+use Rattle.px_chain.specs.Sights.{IsWithin, Sight, Standing, UsedBytes, request_in, sight_over, used_with}
+use Rattle.px_chain.specs.Stages.{At, busy, connection, given_body, given_head, idle, next, request_body, response_body, response_head, upgraded}
 use Rattle.px_chain.specs.Stages as stages
-use Rattle.px_chain.specs.Streams.{Since, client_closed, now_over}
+use Rattle.px_chain.specs.Streams.{Since, bytes_of, client_closed, now_over}
+use Rattle.px_chain.proofs.UsedLaws.{request_within}
 use Rattle.px_http.specs.declared.conversation.HttpConv.{HttpConv}
 use Rattle.px_stream.specs.declared.link.Link.{Link as KeptLink}
 use Rattle.px_stream.specs.declared.phase.Phase.{Phase}
 use Rattle.px_stream.specs.declared.phase.Phase.TheVariants as phase
 use Rattle.px_stream.specs.declared.phase.Wanted.{Wanted}
 use Rattle.px_stream.specs.declared.phase.Wanted.TheVariants as ready
-use Rattle.px_stream.specs.Left.{sequence_left}
-use Rattle.px_stream.specs.Rests.{phase_flow, phase_rest}
-use Rattle.px_stream.specs.Sequence.{IsCounted, asked_tunnel, outcome_in, upgraded_side}
-use Rattle.px_stream.specs.Stands.{IsConnecting as IsTunnelAsked, IsLast, IsLastAt, IsUpgraded, PhaseAt, awaited_in, is_last}
-use Rattle.px_stream.specs.StateLaws.{ends_where_it_ends}
+use Rattle.px_stream.specs.Anywhere.{IsCounted}
+use Rattle.px_stream.specs.Tells.{asked_tunnel, closed_in, outcome_in, phase_flow, sequence_left, side_rest, upgraded_side, uses_side}
+use Rattle.px_stream.specs.Stands.{IsConnecting as IsTunnelAsked, IsLast, IsLastAt, IsOpen, IsUpgraded, LinkKeeps, PhaseAt, awaited_in, is_last}
+use Rattle.px_stream.proofs.StateLaws.{ends_where_it_ends}
 use Rattle.px_stack.specs.declared.child.Child.{Child}
 use Rattle.px_stack.specs.declared.child.Child.TheVariants as children
 use Rattle.px_stack.specs.declared.child.Opening.{Opening}
@@ -56,71 +62,63 @@ use Rattle.px_stack.proofs.RelayLemmas.{given_twice}
 -- it goes on, or not
 going_on : (found : Phase) → outcome_in found ≡ outcomes.Going → is_last found ≡ true → ⊥
 going_on (phase.Asked awaits) is last = let no : false ≡ true = last in cc
-going_on (phase.Ready ready.Finished) is last = let no : outcomes.Next ≡ outcomes.Going = is in cc
 going_on (phase.Ready ready.Over) is last = let no : outcomes.Over ≡ outcomes.Going = is in cc
 going_on (phase.Ready (ready.Connects address)) is last = let no : outcomes.Connects ≡ outcomes.Going = is in cc
-going_on (phase.Ready (ready.Upgraded flow link)) is last = let no : outcomes.Upgraded ≡ outcomes.Going = is in cc
+going_on (phase.Ready (ready.Upgraded flow server)) is last = let no : outcomes.Upgraded ≡ outcomes.Going = is in cc
 going_on (phase.Ready ready.Idle) is last = let no : false ≡ true = last in cc
-going_on (phase.Ready (ready.Receiving flow given body)) is last = let no : false ≡ true = last in cc
-going_on (phase.Ready (ready.Dialling flow)) is last = let no : false ≡ true = last in cc
-going_on (phase.Ready (ready.Answering flow link)) is last = let no : false ≡ true = last in cc
-going_on (phase.Ready (ready.Returning flow link body)) is last = let no : false ≡ true = last in cc
+going_on (phase.Ready (ready.RequestBody flow given body)) is last = let no : false ≡ true = last in cc
+going_on (phase.Ready (ready.Connection flow)) is last = let no : false ≡ true = last in cc
+going_on (phase.Ready (ready.ResponseHead flow server)) is last = let no : false ≡ true = last in cc
+going_on (phase.Ready (ready.ResponseBody flow server body)) is last = let no : false ≡ true = last in cc
 going_on (phase.Ready (ready.GivenHead flow)) is last = let no : false ≡ true = last in cc
 going_on (phase.Ready (ready.GivenBody flow)) is last = let no : false ≡ true = last in cc
 
 -- every outcome but `Going` is a last one
 last_when : (found : Phase) → (outcome_in found ≡ outcomes.Going → ⊥) → is_last found ≡ true
 last_when (phase.Asked awaits) ends = absurd (ends refl)
-last_when (phase.Ready ready.Finished) ends = refl
 last_when (phase.Ready ready.Over) ends = refl
 last_when (phase.Ready (ready.Connects address)) ends = refl
-last_when (phase.Ready (ready.Upgraded flow link)) ends = refl
+last_when (phase.Ready (ready.Upgraded flow server)) ends = refl
 last_when (phase.Ready ready.Idle) ends = absurd (ends refl)
-last_when (phase.Ready (ready.Receiving flow given body)) ends = absurd (ends refl)
-last_when (phase.Ready (ready.Dialling flow)) ends = absurd (ends refl)
-last_when (phase.Ready (ready.Answering flow link)) ends = absurd (ends refl)
-last_when (phase.Ready (ready.Returning flow link body)) ends = absurd (ends refl)
+last_when (phase.Ready (ready.RequestBody flow given body)) ends = absurd (ends refl)
+last_when (phase.Ready (ready.Connection flow)) ends = absurd (ends refl)
+last_when (phase.Ready (ready.ResponseHead flow server)) ends = absurd (ends refl)
+last_when (phase.Ready (ready.ResponseBody flow server body)) ends = absurd (ends refl)
 last_when (phase.Ready (ready.GivenHead flow)) ends = absurd (ends refl)
 last_when (phase.Ready (ready.GivenBody flow)) ends = absurd (ends refl)
 
 -- where it ended, how
-pub data EndsAs (place : Place) (standing : Standing) (stage : stages.Stage) (seen : Sight) (requests : State) (found : Phase) : Type 0 where
-  by_connect : (at : At) (connects : Connect) → stage ≡ idle at → connect_in place (request_in at seen) ≡ Some connects →
-      (last : Wanted) → found ≡ phase.Ready last → IsTunnelAsked at seen requests connects last → EndsAs place standing stage seen requests found
-  by_upgrade : (at : At) (flow : Flow) (side : ServerSide) → stage ≡ busy at flow (upgraded side) →
-      (last : Wanted) → found ≡ phase.Ready last → IsUpgraded at seen requests flow side last → EndsAs place standing stage seen requests found
-  by_end : hands_by place standing stage seen ≡ None → (last : Wanted) → found ≡ phase.Ready last → outcome_in (phase.Ready last) ≡ outcomes.Over → EndsAs place standing stage seen requests found
-  by_next : hands_by place standing stage seen ≡ None → (last : Wanted) → found ≡ phase.Ready last → outcome_in (phase.Ready last) ≡ outcomes.Next → EndsAs place standing stage seen requests found
+pub data EndsAs (place : Place) (standing : Standing) (stage : stages.Stage) (seen : Sight) (requests : State) (side : Option KeptLink) (found : Phase) : Type 0 where
+  by_connect : (at : At) (connects : Connect) → stage ≡ idle at → connect_in place (request_in seen) ≡ Some connects →
+      (last : Wanted) → found ≡ phase.Ready last → IsTunnelAsked connects seen requests last → EndsAs place standing stage seen requests side found
+  by_upgrade : (at : At) (flow : Flow) (server : ℕ) → stage ≡ busy at flow (upgraded server) →
+      (last : Wanted) → found ≡ phase.Ready last → IsUpgraded flow server seen requests side last → EndsAs place standing stage seen requests side found
+  by_end : hands_by place standing stage seen ≡ None → (last : Wanted) → found ≡ phase.Ready last → last ≡ ready.Over → EndsAs place standing stage seen requests side found
 
-over_as : (place : Place) (standing : Standing) (stage : stages.Stage) (seen : Sight) (requests : State) (found : Phase) (last : Wanted) → hands_by place standing stage seen ≡ None →
-    found ≡ phase.Ready last → last ≡ ready.Over → EndsAs place standing stage seen requests found
-over_as place standing stage seen requests found last stays same is = by_end stays last same (ap (λ r. outcome_in (phase.Ready r)) is)
+idle_as : (place : Place) (standing : Standing) (at : At) (seen : Sight) (requests : State) (side : Option KeptLink) (found : Phase) (last : Wanted) (connects : Option Connect) →
+    connect_in place (request_in seen) ≡ connects → found ≡ phase.Ready last → IsLastAt connects seen requests last → EndsAs place standing (idle at) seen requests side found
+idle_as place standing at seen requests side found last None is same ends = by_end (ap (tunnel_for place standing.used.client at) is) last same ends
+idle_as place standing at seen requests side found last (Some connects) is same ends = by_connect at connects refl is last same ends
 
-idle_as : (place : Place) (standing : Standing) (at : At) (seen : Sight) (requests : State) (found : Phase) (last : Wanted) (connects : Option Connect) →
-    connect_in place (request_in at seen) ≡ connects → found ≡ phase.Ready last → IsLastAt connects at seen requests last → EndsAs place standing (idle at) seen requests found
-idle_as place standing at seen requests found last None is same ends =
-    over_as place standing (idle at) seen requests found last (ap (tunnel_for place at) is) same ends
-idle_as place standing at seen requests found last (Some connects) is same ends = by_connect at connects refl is last same ends
-
-ends_as : (terms : Terms) (standing : Standing) (stage : stages.Stage) (seen : Sight) (requests : State) (found : Phase) (last : Wanted) →
-    found ≡ phase.Ready last → IsLast terms stage seen requests last → EndsAs terms.place standing stage seen requests found
-ends_as terms standing (idle at) seen requests found last same is = idle_as terms.place standing at seen requests found last (connect_in terms.place (request_in at seen)) refl same is
-ends_as terms standing (busy at flow (request_body given)) seen requests found last same is = over_as terms.place standing (busy at flow (request_body given)) seen requests found last refl same is
-ends_as terms standing (busy at flow connection) seen requests found last same is = over_as terms.place standing (busy at flow connection) seen requests found last refl same is
-ends_as terms standing (busy at flow (response_head side how)) seen requests found last same is = over_as terms.place standing (busy at flow (response_head side how)) seen requests found last refl same is
-ends_as terms standing (busy at flow (response_body side how)) seen requests found last same is = over_as terms.place standing (busy at flow (response_body side how)) seen requests found last refl same is
-ends_as terms standing (busy at flow (upgraded side)) seen requests found last same is = by_upgrade at flow side refl last same is
-ends_as terms standing (busy at flow given_head) seen requests found last same is = over_as terms.place standing (busy at flow given_head) seen requests found last refl same is
-ends_as terms standing (busy at flow given_body) seen requests found last same is = over_as terms.place standing (busy at flow given_body) seen requests found last refl same is
-ends_as terms standing (next at) seen requests found last same is = by_next refl last same (ap (λ r. outcome_in (phase.Ready r)) is.phase)
-ends_as terms standing stages.over seen requests found last same is = over_as terms.place standing stages.over seen requests found last refl same is
+ends_as : (terms : Terms) (standing : Standing) (stage : stages.Stage) (seen : Sight) (requests : State) (side : Option KeptLink) (found : Phase) (last : Wanted) →
+    found ≡ phase.Ready last → IsLast terms stage seen requests side last → EndsAs terms.place standing stage seen requests side found
+ends_as terms standing (idle at) seen requests side found last same is = idle_as terms.place standing at seen requests side found last (connect_in terms.place (request_in seen)) refl same is
+ends_as terms standing (busy at flow (request_body given)) seen requests side found last same is = by_end refl last same is
+ends_as terms standing (busy at flow connection) seen requests side found last same is = by_end refl last same is
+ends_as terms standing (busy at flow (response_head server how)) seen requests side found last same is = by_end refl last same is
+ends_as terms standing (busy at flow (response_body server how)) seen requests side found last same is = by_end refl last same is
+ends_as terms standing (busy at flow (upgraded server)) seen requests side found last same is = by_upgrade at flow server refl last same is
+ends_as terms standing (busy at flow given_head) seen requests side found last same is = by_end refl last same is
+ends_as terms standing (busy at flow given_body) seen requests side found last same is = by_end refl last same is
+ends_as terms standing (next at) seen requests side found last same is = by_end refl last same is
+ends_as terms standing stages.over seen requests side found last same is = by_end refl last same is
 
 -- the phase is a last one, so the end was found
-ends_by : (l : Look Command) (terms : Terms) (requests : State) (found : Phase) (standing : Standing) (stage : stages.Stage) (seen : Sight) →
-    (owed : List Command) × (l ≡ Ends owed) → PhaseAt l terms requests found stage seen → EndsAs terms.place standing stage seen requests found
-ends_by NotYet terms requests found standing stage seen (owed, is) at = absurd (let no : NotYet ≡ Ends owed = is in cc)
-ends_by (Asks ask) terms requests found standing stage seen (owed, is) at = absurd (let no : Asks ask ≡ Ends owed = is in cc)
-ends_by (Ends owed) terms requests found standing stage seen is (last, same, at) = ends_as terms standing stage seen requests found last same at
+ends_by : (l : Look Command) (terms : Terms) (at : At) (requests : State) (side : Option KeptLink) (found : Phase) (standing : Standing) (stage : stages.Stage) (seen : Sight) →
+    (owed : List Command) × (l ≡ Ends owed) → PhaseAt l terms at requests side found stage seen → EndsAs terms.place standing stage seen requests side found
+ends_by NotYet terms at requests side found standing stage seen (owed, is) there = absurd (let no : NotYet ≡ Ends owed = is in cc)
+ends_by (Asks ask) terms at requests side found standing stage seen (owed, is) there = absurd (let no : Asks ask ≡ Ends owed = is in cc)
+ends_by (Ends owed) terms at requests side found standing stage seen is (last, same, there) = ends_as terms standing stage seen requests side found last same there
 
 -- ---- by the stage that follows
 
@@ -193,19 +191,18 @@ module _ (conv : ℕ) (client : Visitor) (place : Place) (flows : HttpConv) (sta
         as_follows children.Over [] None stays (record { there = ends_there owed looked is; gives = λ view. append-nil _; left = omega arith })
 
     -- where the end is found, and how
-    found_end : is_last flows.stream.phase ≡ true → EndsAs place standing standing.stage seen flows.stream.requests flows.stream.phase
+    found_end : is_last flows.stream.phase ≡ true → EndsAs place standing standing.stage seen flows.stream.requests flows.stream.side flows.stream.phase
     found_end last =
-        ends_by looked terms flows.stream.requests flows.stream.phase standing standing.stage seen
+        ends_by looked terms flows.stream.at flows.stream.requests flows.stream.side flows.stream.phase standing standing.stage seen
         ((ends_where_it_ends sequence terms).ends flows.stream standing prefix at.is_at last) at.is_at.is_in.phase
 
-    end_by : (last : is_last flows.stream.phase ≡ true) → EndsAs place standing standing.stage seen flows.stream.requests flows.stream.phase →
+    end_by : (last : is_last flows.stream.phase ≡ true) → EndsAs place standing standing.stage seen flows.stream.requests flows.stream.side flows.stream.phase →
         (outcome_in flows.stream.phase ≡ outcomes.Connects → ⊥) → (outcome_in flows.stream.phase ≡ outcomes.Upgraded → ⊥) → hands_over place standing prefix ≡ None
     end_by last (by_connect at connects is whole last_phase same asked) apart other =
         absurd (apart (ap outcome_in same ∙ ap (λ r. outcome_in (phase.Ready r)) asked.phase))
-    end_by last (by_upgrade at flow side is last_phase same asked) apart other =
+    end_by last (by_upgrade at flow server is last_phase same asked) apart other =
         absurd (other (ap outcome_in same ∙ ap (λ r. outcome_in (phase.Ready r)) asked.phase))
     end_by last (by_end stays last_phase same is) apart other = stays
-    end_by last (by_next stays last_phase same is) apart other = stays
 
     -- it has ended
     pub ends : is_last flows.stream.phase ≡ true → (outcome_in flows.stream.phase ≡ outcomes.Connects → ⊥) → (outcome_in flows.stream.phase ≡ outcomes.Upgraded → ⊥) →
@@ -217,62 +214,81 @@ module _ (conv : ℕ) (client : Visitor) (place : Place) (flows : HttpConv) (sta
 
 -- what is dialled for it
 abbrev pub dials_for : Opening → List Command
-dials_for kept = commands.Dial kept.numbers.server (unwrap_or kept.proxy kept.address) None ∷ []
+dials_for kept = commands.Dial kept.dials (unwrap_or kept.proxy kept.address) None ∷ []
 
 -- only where requests go where they ask to, a tunnel may follow
 record LeavesRoom (place : Place) : Type 0 where
   none_ahead : ahead_at place ≡ 0
   asks : tunnel_left place ≡ connecting_left
 
-leaves_room : (place : Place) (at : At) (seen : Sight) (connects : Connect) → connect_in place (request_in at seen) ≡ Some connects → LeavesRoom place
-leaves_room (places.Fixed address side inside) at seen connects is =
-    absurd (let no : None ≡ Some connects = sym (never_connects address side inside (request_in at seen)) ∙ is in cc)
-leaves_room places.Regular at seen connects is = record { none_ahead = refl; asks = refl }
-leaves_room (places.Upstream proxy) at seen connects is = record { none_ahead = refl; asks = refl }
+leaves_room : (place : Place) (seen : Sight) (connects : Connect) → connect_in place (request_in seen) ≡ Some connects → LeavesRoom place
+leaves_room (places.Fixed address side inside) seen connects is =
+    absurd (let no : None ≡ Some connects = sym (never_connects address side inside (request_in seen)) ∙ is in cc)
+leaves_room places.Regular seen connects is = record { none_ahead = refl; asks = refl }
+leaves_room (places.Upstream proxy) seen connects is = record { none_ahead = refl; asks = refl }
+
+-- it used the bytes of a whole head
+judged_used : (made : Judged) (size : ℕ) (connects : Connect) → connect_judged made size ≡ Some connects → connects.used ≡ size
+judged_used (Refused fault) size connects is = absurd (let no : None ≡ Some connects = is in cc)
+judged_used (Accepted request) size connects is = absurd (let no : None ≡ Some connects = is in cc)
+judged_used (Connects address) size connects is = let same : connects ≡ record { address = address; used = size } = cc in ap (λ c. c.used) same
+
+connect_used : (place : Place) (item : Item ReadRequest) (used : ℕ) (connects : Connect) → connect_in place item ≡ Some connects → used_with item used ≡ used + connects.used
+connect_used place missing used connects is = absurd (let no : None ≡ Some connects = is in cc)
+connect_used place (part head body) used connects is = absurd (let no : None ≡ Some connects = is in cc)
+connect_used place (complete head body trailers size) used connects is = ap (λ n. used + n) (sym (judged_used (judged place head) size connects is))
+connect_used place (bad_head fault) used connects is = absurd (let no : None ≡ Some connects = is in cc)
+connect_used place (bad_body fault head body) used connects is = absurd (let no : None ≡ Some connects = is in cc)
 
 module _ (conv : ℕ) (client : Visitor) (place : Place) (flows : HttpConv) where
   -- over plain parts of a standing
-  module _ (at : At) (since : Since) (opened : ℕ) (prefix : List (Timed Event)) where
+  module _ (at : At) (since : Since) (opened : ℕ) (used : UsedBytes) (prefix : List (Timed Event)) where
     abbrev here : Standing
-    here = record { stage = idle at; since = since; opened = opened }
+    here = record { stage = idle at; since = since; opened = opened; used = used }
 
     abbrev sight : Sight
     sight = sight_over here prefix
 
     abbrev tunnel_of : Connect → Tunnel
-    tunnel_of connects = record { at = used_more at connects.used; address = connects.address; proxy = proxy_at place }
+    tunnel_of connects = record { at = at; used = used.client + connects.used; address = connects.address; proxy = proxy_at place }
 
-    connect_follows : IsInFlows conv client place flows here prefix → (connects : Connect) → connect_in place (request_in at sight) ≡ Some connects →
-        (last : Wanted) → flows.stream.phase ≡ phase.Ready last → IsTunnelAsked at sight flows.stream.requests connects last →
-        (kept : Opening) (closed : Bool) → kept.numbers ≡ flows.stream.numbers → asked_tunnel flows.stream.phase ≡ Some kept.address → kept.proxy ≡ proxy_at place →
+    -- what it used had come
+    connect_come : IsWithin here prefix → (connects : Connect) → connect_in place (request_in sight) ≡ Some connects → used.client + connects.used ≤ length (bytes_of Client prefix)
+    connect_come within connects is =
+        let whole = request_within sight used.client (bytes_of Client prefix) refl within.client in
+        let same = connect_used place (request_in sight) used.client connects is in
+        omega arith
+
+    connect_follows : IsInFlows conv client place flows here prefix → (connects : Connect) → connect_in place (request_in sight) ≡ Some connects →
+        (last : Wanted) → flows.stream.phase ≡ phase.Ready last → IsTunnelAsked connects sight flows.stream.requests last →
+        (kept : Opening) (closed : Bool) → kept.flow ≡ flows.stream.at.flow → kept.dials ≡ flows.stream.at.dials → asked_tunnel flows.stream.phase ≡ Some kept.address → kept.proxy ≡ proxy_at place →
         kept.rest ≡ flows.stream.requests.rest → closed ≡ flows.stream.client_closed → FollowsAt conv client flows (children.Connecting kept closed) (dials_for kept) place here prefix
-    connect_follows in_flows connects is last same asked kept closed numbers address proxy rest client_is =
-        let room = leaves_room place at sight connects is in
+    connect_follows in_flows connects is last same asked kept closed flow dials address proxy rest client_is =
+        let room = leaves_room place sight connects is in
         let tunnel : Tunnel = tunnel_of connects in
-        let to : hands_over place here prefix ≡ Some (connecting tunnel) = ap (tunnel_for place at) is in
+        let to : hands_over place here prefix ≡ Some (connecting tunnel) = ap (tunnel_for place used.client at) is in
         let over = hands (terms_of conv client.address place) here (idle at) sight (connecting tunnel) to in
         let placed = in_flows.is_at.is_in.place in
         let counted : IsCounted (ahead_at place) at = in_flows.few in
         let few : at.dials ≤ at.flow + ahead_at place = counted.dials in
         let none : ahead_at place ≡ 0 = room.none_ahead in
         let below : at.flow < 1000000 = counted.few in
-        let servers : flows.stream.numbers.server ≡ at.dials = placed.servers (omega arith) in
         let there : Some connects.address ≡ Some kept.address = sym (ap asked_tunnel same ∙ ap (λ r. asked_tunnel (phase.Ready r)) asked.phase) ∙ address in
         let same_address : kept.address ≡ connects.address = let e : connects.address ≡ kept.address = cc in sym e in
-        let same_server : kept.numbers.server ≡ at.dials = ap (λ n. n.server) numbers ∙ servers in
+        let same_server : kept.dials ≡ at.dials = dials ∙ ap (λ (a : At). a.dials) placed.is_here in
         as_follows conv client place flows here prefix (children.Connecting kept closed) _ (Some (connecting tunnel)) to (record {
           there = record {
             kept = kept;
             closed = closed;
             is = refl;
             opening = record {
-              flow = ap (λ n. n.flow) numbers ∙ placed.index;
-              server = same_server;
+              flow = flow ∙ ap (λ (a : At). a.flow) placed.is_here;
+              dials = same_server;
               address = same_address;
               proxy = proxy;
-              rest = rest ∙ asked.keeps.rest;
+              rest = rest ∙ (asked.keeps.rest ∙ drop-drop connects.used used.client (bytes_of Client prefix));
               few = below;
-              used = asked.within;
+              used = connect_come in_flows.is_at.within connects is;
             };
             dials = omega arith;
             client = client_is ∙ placed.client;
@@ -286,29 +302,27 @@ module _ (conv : ℕ) (client : Visitor) (place : Place) (flows : HttpConv) wher
         })
 
   -- whatever the standing
-  module _ (kept : Opening) (closed : Bool) (since : Since) (opened : ℕ) (prefix : List (Timed Event)) where
+  module _ (kept : Opening) (closed : Bool) (since : Since) (opened : ℕ) (used : UsedBytes) (prefix : List (Timed Event)) where
     abbrev standing_at : stages.Stage → Standing
-    standing_at stage = record { stage = stage; since = since; opened = opened }
+    standing_at stage = record { stage = stage; since = since; opened = opened; used = used }
 
     abbrev Dials : stages.Stage → Type 0
     Dials stage = FollowsAt conv client flows (children.Connecting kept closed) (dials_for kept) place (standing_at stage) prefix
 
     connect_by : (stage : stages.Stage) → IsInFlows conv client place flows (standing_at stage) prefix → outcome_in flows.stream.phase ≡ outcomes.Connects →
-        EndsAs place (standing_at stage) stage (sight_over (standing_at stage) prefix) flows.stream.requests flows.stream.phase →
-        kept.numbers ≡ flows.stream.numbers → asked_tunnel flows.stream.phase ≡ Some kept.address → kept.proxy ≡ proxy_at place →
+        EndsAs place (standing_at stage) stage (sight_over (standing_at stage) prefix) flows.stream.requests flows.stream.side flows.stream.phase →
+        kept.flow ≡ flows.stream.at.flow → kept.dials ≡ flows.stream.at.dials → asked_tunnel flows.stream.phase ≡ Some kept.address → kept.proxy ≡ proxy_at place →
         kept.rest ≡ flows.stream.requests.rest → closed ≡ flows.stream.client_closed → Dials stage
-    connect_by stage in_flows outcome (by_connect at connects is whole last same asked) numbers address proxy rest client_is =
+    connect_by stage in_flows outcome (by_connect at connects is whole last same asked) flow dials address proxy rest client_is =
         let P : stages.Stage → Type 0 = λ s. IsInFlows conv client place flows (standing_at s) prefix →
-        connect_in place (request_in at (sight_over (standing_at s) prefix)) ≡ Some connects →
-        IsTunnelAsked at (sight_over (standing_at s) prefix) flows.stream.requests connects last → Dials s in
-        subst P (sym is) (λ flows_there whole_there asked_there. connect_follows at since opened prefix flows_there connects whole_there last same asked_there kept closed numbers address proxy rest client_is)
+        connect_in place (request_in (sight_over (standing_at s) prefix)) ≡ Some connects →
+        IsTunnelAsked connects (sight_over (standing_at s) prefix) flows.stream.requests last → Dials s in
+        subst P (sym is) (λ flows_there whole_there asked_there. connect_follows at since opened used prefix flows_there connects whole_there last same asked_there kept closed flow dials address proxy rest client_is)
         in_flows whole asked
-    connect_by stage in_flows outcome (by_upgrade at flow side is last same asked) numbers address proxy rest client_is =
+    connect_by stage in_flows outcome (by_upgrade at follower server is last same asked) flow dials address proxy rest client_is =
         absurd (let no : outcomes.Upgraded ≡ outcomes.Connects = sym (ap outcome_in same ∙ ap (λ r. outcome_in (phase.Ready r)) asked.phase) ∙ outcome in cc)
-    connect_by stage in_flows outcome (by_end stays last same is) numbers address proxy rest client_is =
-        absurd (let no : outcomes.Over ≡ outcomes.Connects = sym (ap outcome_in same ∙ is) ∙ outcome in cc)
-    connect_by stage in_flows outcome (by_next stays last same is) numbers address proxy rest client_is =
-        absurd (let no : outcomes.Next ≡ outcomes.Connects = sym (ap outcome_in same ∙ is) ∙ outcome in cc)
+    connect_by stage in_flows outcome (by_end stays last same is) flow dials address proxy rest client_is =
+        absurd (let no : outcomes.Over ≡ outcomes.Connects = sym (ap outcome_in same ∙ ap (λ r. outcome_in (phase.Ready r)) is) ∙ outcome in cc)
 
 apart : (found : Phase) (a b : Outcome) → outcome_in found ≡ a → (a ≡ b → ⊥) → outcome_in found ≡ b → ⊥
 apart found a b is differ other = differ (sym is ∙ other)
@@ -321,14 +335,19 @@ upgraded_not is = let no : outcomes.Upgraded ≡ outcomes.Going = is in cc
 
 -- A CONNECT was read: its server is dialled.
 pub connects : (flows : HttpConv) (kept : Opening) (closed : Bool) → outcome_in flows.stream.phase ≡ outcomes.Connects →
-    kept.numbers ≡ flows.stream.numbers → asked_tunnel flows.stream.phase ≡ Some kept.address → kept.proxy ≡ proxy_at flows.stream.terms.place →
+    kept.flow ≡ flows.stream.at.flow → kept.dials ≡ flows.stream.at.dials → asked_tunnel flows.stream.phase ≡ Some kept.address → kept.proxy ≡ proxy_at flows.stream.terms.place →
     kept.rest ≡ flows.stream.requests.rest → closed ≡ flows.stream.client_closed → (key : List ℕ) (moment : ℕ) → Follows key moment flows (children.Connecting kept closed) (dials_for kept)
-connects flows kept closed is numbers address proxy rest client_is key moment conv client place standing prefix keyed now at in_time =
+connects flows kept closed is flow dials address proxy rest client_is key moment conv client place standing prefix keyed now at in_time =
     let last : is_last flows.stream.phase ≡ true = last_when flows.stream.phase (apart flows.stream.phase outcomes.Connects outcomes.Going is connects_not) in
-    connect_by conv client place flows kept closed standing.since standing.opened prefix standing.stage at is
-    (found_end conv client place flows standing prefix at last) numbers address (proxy ∙ ap (λ t. proxy_at t.place) at.is_at.is_in.terms) rest client_is
+    connect_by conv client place flows kept closed standing.since standing.opened standing.used prefix standing.stage at is
+    (found_end conv client place flows standing prefix at last) flow dials address (proxy ∙ ap (λ t. proxy_at t.place) at.is_at.is_in.terms) rest client_is
 
 -- ---- another protocol
+
+-- the side that is open
+open_link : (holds : KeptLink → Type 0) (side : Option KeptLink) → IsOpen holds side → (link : KeptLink) × (side ≡ Some link) × holds link
+open_link holds None is = absurd is
+open_link holds (Some link) is = (link, refl, is)
 
 -- a WebSocket's stage, and that of what is not read, are passed alike
 begun_passes : (conv : ℕ) (client : Visitor) (b : Bool) (flow : Flow) (moment : ℕ) (ends : TunnelEnds) (prefix : List (Timed Event)) →
@@ -343,45 +362,47 @@ socket_room places.Regular = omega arith
 socket_room (places.Upstream proxy) = omega arith
 
 module _ (conv : ℕ) (client : Visitor) (place : Place) (flows : HttpConv) where
-  module _ (at : At) (flow : Flow) (side : ServerSide) (since : Since) (opened : ℕ) (prefix : List (Timed Event)) where
+  module _ (at : At) (flow : Flow) (server : ℕ) (since : Since) (opened : ℕ) (used : UsedBytes) (prefix : List (Timed Event)) where
     abbrev there_at : Standing
-    there_at = record { stage = busy at flow (upgraded side); since = since; opened = opened }
+    there_at = record { stage = busy at flow (upgraded server); since = since; opened = opened; used = used }
 
     abbrev ends_of : TunnelEnds
-    ends_of = record { used = at.used; link = record { side = side; opened = opened }; flow = Some flow }
+    ends_of = record { used = used.client; link = record { server = server; used = used.server; opened = opened }; flow = Some flow }
 
     abbrev stage_of : Stage
     stage_of = upgraded_to (is_websocket flow (client_closed prefix)) flow (now_over since prefix) ends_of
 
     upgrade_follows : IsInFlows conv client place flows there_at prefix → (last : Wanted) → flows.stream.phase ≡ phase.Ready last →
-        IsUpgraded at (sight_over there_at prefix) flows.stream.requests flow side last →
+        IsUpgraded flow server (sight_over there_at prefix) flows.stream.requests flows.stream.side last →
         (moment : ℕ) (sides : Sides) (rests : Rests) (given : Flow) (child : Child) (more : List Command) → moment ≡ now_over since prefix →
-        upgraded_side flows.stream.phase ≡ Some (ByServer sides.server sides.shut) → sides.closed ≡ flows.stream.client_closed →
-        rests.client ≡ flows.stream.requests.rest → rests.server ≡ phase_rest flows.stream.phase → Some given ≡ phase_flow flows.stream.phase →
+        upgraded_side flows.stream.phase flows.stream.side ≡ Some (ByServer sides.server sides.shut) → sides.closed ≡ flows.stream.client_closed →
+        rests.client ≡ flows.stream.requests.rest → rests.server ≡ side_rest (uses_side flows.stream.phase) flows.stream.side → Some given ≡ phase_flow flows.stream.phase →
         left_by child ≤ most_asked → GoesOnAs client.key moment sides rests given child more →
         FollowsAt conv client flows child more place there_at prefix
     upgrade_follows in_flows last same asked moment sides rests given child more now sides_are closed_is client_rest server_rest given_is few_left goes =
         let seen_there : Sight = sight_over there_at prefix in
-        let kept : KeptLink = asked.kept in
-        let phase_is : flows.stream.phase ≡ phase.Ready (ready.Upgraded flow kept) = same ∙ ap phase.Ready asked.phase in
+        let phase_is : flows.stream.phase ≡ phase.Ready (ready.Upgraded flow server) = same ∙ ap phase.Ready asked.phase in
         let placed = in_flows.is_at.is_in.place in
+        let within = in_flows.is_at.within in
         let to : hands_over place there_at prefix ≡ Some stage_of = refl in
-        let over = hands (terms_of conv client.address place) there_at (busy at flow (upgraded side)) seen_there stage_of to in
-        let used_are : Some (ByServer sides.server sides.shut) ≡ Some (ByServer kept.server kept.closed) = sym sides_are ∙ ap upgraded_side phase_is in
-        let server_is : sides.server ≡ kept.server = cc in
+        let over = hands (terms_of conv client.address place) there_at (busy at flow (upgraded server)) seen_there stage_of to in
+        let (kept, side_is, keeps) = open_link (LinkKeeps server seen_there.server seen_there.shut) flows.stream.side asked.is_open in
+        let used_are : Some (ByServer sides.server sides.shut) ≡ Some (ByServer server kept.closed) =
+        sym sides_are ∙ (ap (λ p. upgraded_side p flows.stream.side) phase_is ∙ ap (λ o. Some (ByServer server (closed_in o))) side_is) in
+        let server_is : sides.server ≡ server = cc in
         let shut_is : sides.shut ≡ kept.closed = cc in
         let flows_are : Some given ≡ Some flow = given_is ∙ ap phase_flow phase_is in
         let flow_is : given ≡ flow = cc in
         let may : MayRelay ends_of prefix sides rests (Some given) = record {
-          server = server_is ∙ asked.server;
-          shut = shut_is ∙ asked.closed;
+          server = server_is;
+          shut = shut_is ∙ keeps.closed;
           closed = closed_is ∙ placed.client;
           up = client_rest ∙ asked.keeps.rest;
-          down = server_rest ∙ (ap phase_rest phase_is ∙ asked.rest);
+          down = server_rest ∙ (ap (λ p. side_rest (uses_side p) flows.stream.side) phase_is ∙ (ap (side_rest true) side_is ∙ keeps.rest));
           same_flow = flows_are;
-          used = placed.used;
-          side_used = asked.within;
-          opened = in_flows.is_at.within.opened;
+          used = within.client;
+          side_used = within.server;
+          opened = within.opened;
         } in
         let Q : Flow → Type 0 = λ f. Arrives conv client child more (upgraded_to (is_websocket f (client_closed prefix)) f moment ends_of) prefix in
         let R : ℕ → Type 0 = λ n. Arrives conv client child more (upgraded_to (is_websocket flow (client_closed prefix)) flow n ends_of) prefix in
@@ -397,52 +418,49 @@ module _ (conv : ℕ) (client : Visitor) (place : Place) (flows : HttpConv) wher
         })
 
   module _ (moment : ℕ) (sides : Sides) (rests : Rests) (given : Flow) (child : Child) (more : List Command)
-      (since : Since) (opened : ℕ) (prefix : List (Timed Event)) (now : moment ≡ now_over since prefix) where
+      (since : Since) (opened : ℕ) (used : UsedBytes) (prefix : List (Timed Event)) (now : moment ≡ now_over since prefix) where
     abbrev stands_at : stages.Stage → Standing
-    stands_at stage = record { stage = stage; since = since; opened = opened }
+    stands_at stage = record { stage = stage; since = since; opened = opened; used = used }
 
     upgrade_by : (stage : stages.Stage) → IsInFlows conv client place flows (stands_at stage) prefix → outcome_in flows.stream.phase ≡ outcomes.Upgraded →
-        EndsAs place (stands_at stage) stage (sight_over (stands_at stage) prefix) flows.stream.requests flows.stream.phase →
-        upgraded_side flows.stream.phase ≡ Some (ByServer sides.server sides.shut) → sides.closed ≡ flows.stream.client_closed →
-        rests.client ≡ flows.stream.requests.rest → rests.server ≡ phase_rest flows.stream.phase → Some given ≡ phase_flow flows.stream.phase →
+        EndsAs place (stands_at stage) stage (sight_over (stands_at stage) prefix) flows.stream.requests flows.stream.side flows.stream.phase →
+        upgraded_side flows.stream.phase flows.stream.side ≡ Some (ByServer sides.server sides.shut) → sides.closed ≡ flows.stream.client_closed →
+        rests.client ≡ flows.stream.requests.rest → rests.server ≡ side_rest (uses_side flows.stream.phase) flows.stream.side → Some given ≡ phase_flow flows.stream.phase →
         left_by child ≤ most_asked → GoesOnAs client.key moment sides rests given child more →
         FollowsAt conv client flows child more place (stands_at stage) prefix
     upgrade_by stage in_flows outcome (by_connect at tunnel is whole last same asked) a b c d e f goes =
         absurd (let no : outcomes.Connects ≡ outcomes.Upgraded = sym (ap outcome_in same ∙ ap (λ r. outcome_in (phase.Ready r)) asked.phase) ∙ outcome in cc)
-    upgrade_by stage in_flows outcome (by_upgrade at flow side is last same asked) a b c d e f goes =
+    upgrade_by stage in_flows outcome (by_upgrade at flow server is last same asked) a b c d e f goes =
         let P : stages.Stage → Type 0 = λ s. IsInFlows conv client place flows (stands_at s) prefix →
-        IsUpgraded at (sight_over (stands_at s) prefix) flows.stream.requests flow side last → FollowsAt conv client flows child more place (stands_at s) prefix in
-        subst P (sym is) (λ flows_there asked_there. upgrade_follows at flow side since opened prefix flows_there last same asked_there moment sides rests given child more now a b c d e f goes)
+        IsUpgraded flow server (sight_over (stands_at s) prefix) flows.stream.requests flows.stream.side last → FollowsAt conv client flows child more place (stands_at s) prefix in
+        subst P (sym is) (λ flows_there asked_there. upgrade_follows at flow server since opened used prefix flows_there last same asked_there moment sides rests given child more now a b c d e f goes)
         in_flows asked
     upgrade_by stage in_flows outcome (by_end stays last same is) a b c d e f goes =
-        absurd (let no : outcomes.Over ≡ outcomes.Upgraded = sym (ap outcome_in same ∙ is) ∙ outcome in cc)
-    upgrade_by stage in_flows outcome (by_next stays last same is) a b c d e f goes =
-        absurd (let no : outcomes.Next ≡ outcomes.Upgraded = sym (ap outcome_in same ∙ is) ∙ outcome in cc)
+        absurd (let no : outcomes.Over ≡ outcomes.Upgraded = sym (ap outcome_in same ∙ ap (λ r. outcome_in (phase.Ready r)) is) ∙ outcome in cc)
 
 -- A response of code 101 was sent: what follows on both sides is a WebSocket, or is not read.
 pub upgrades : (key : List ℕ) (moment : ℕ) (flows : HttpConv) (sides : Sides) (rests : Rests) (given : Flow) (child : Child) (more : List Command) →
-    outcome_in flows.stream.phase ≡ outcomes.Upgraded → upgraded_side flows.stream.phase ≡ Some (ByServer sides.server sides.shut) → sides.closed ≡ flows.stream.client_closed →
-    rests.client ≡ flows.stream.requests.rest → rests.server ≡ phase_rest flows.stream.phase → Some given ≡ phase_flow flows.stream.phase →
+    outcome_in flows.stream.phase ≡ outcomes.Upgraded → upgraded_side flows.stream.phase flows.stream.side ≡ Some (ByServer sides.server sides.shut) → sides.closed ≡ flows.stream.client_closed →
+    rests.client ≡ flows.stream.requests.rest → rests.server ≡ side_rest (uses_side flows.stream.phase) flows.stream.side → Some given ≡ phase_flow flows.stream.phase →
     left_by child ≤ most_asked → GoesOnAs key moment sides rests given child more →
     Follows key moment flows child more
 upgrades key moment flows sides rests given child more is a b c d e f goes conv client place standing prefix keyed now at in_time =
     let last : is_last flows.stream.phase ≡ true = last_when flows.stream.phase (apart flows.stream.phase outcomes.Upgraded outcomes.Going is upgraded_not) in
     let P : List ℕ → Type 0 = λ k. GoesOnAs k moment sides rests given child more in
-    upgrade_by conv client place flows moment sides rests given child more standing.since standing.opened prefix now standing.stage at is
+    upgrade_by conv client place flows moment sides rests given child more standing.since standing.opened standing.used prefix now standing.stage at is
     (found_end conv client place flows standing prefix at last) a b c d e f (subst P (sym keyed) goes)
 
 -- its flow is there
 pub upgraded_flow : (found : Phase) → outcome_in found ≡ outcomes.Upgraded → phase_flow found ≡ None → ⊥
-upgraded_flow (phase.Ready (ready.Upgraded flow link)) is none = let no : Some flow ≡ None = none in cc
+upgraded_flow (phase.Ready (ready.Upgraded flow server)) is none = let no : Some flow ≡ None = none in cc
 upgraded_flow (phase.Asked awaits) is none = let no : outcomes.Going ≡ outcomes.Upgraded = is in cc
-upgraded_flow (phase.Ready ready.Finished) is none = let no : outcomes.Next ≡ outcomes.Upgraded = is in cc
 upgraded_flow (phase.Ready ready.Over) is none = let no : outcomes.Over ≡ outcomes.Upgraded = is in cc
 upgraded_flow (phase.Ready (ready.Connects address)) is none = let no : outcomes.Connects ≡ outcomes.Upgraded = is in cc
 upgraded_flow (phase.Ready ready.Idle) is none = let no : outcomes.Going ≡ outcomes.Upgraded = is in cc
-upgraded_flow (phase.Ready (ready.Receiving flow given body)) is none = let no : outcomes.Going ≡ outcomes.Upgraded = is in cc
-upgraded_flow (phase.Ready (ready.Dialling flow)) is none = let no : outcomes.Going ≡ outcomes.Upgraded = is in cc
-upgraded_flow (phase.Ready (ready.Answering flow link)) is none = let no : outcomes.Going ≡ outcomes.Upgraded = is in cc
-upgraded_flow (phase.Ready (ready.Returning flow link body)) is none = let no : outcomes.Going ≡ outcomes.Upgraded = is in cc
+upgraded_flow (phase.Ready (ready.RequestBody flow given body)) is none = let no : outcomes.Going ≡ outcomes.Upgraded = is in cc
+upgraded_flow (phase.Ready (ready.Connection flow)) is none = let no : outcomes.Going ≡ outcomes.Upgraded = is in cc
+upgraded_flow (phase.Ready (ready.ResponseHead flow server)) is none = let no : outcomes.Going ≡ outcomes.Upgraded = is in cc
+upgraded_flow (phase.Ready (ready.ResponseBody flow server body)) is none = let no : outcomes.Going ≡ outcomes.Upgraded = is in cc
 upgraded_flow (phase.Ready (ready.GivenHead flow)) is none = let no : outcomes.Going ≡ outcomes.Upgraded = is in cc
 upgraded_flow (phase.Ready (ready.GivenBody flow)) is none = let no : outcomes.Going ≡ outcomes.Upgraded = is in cc
 

@@ -16,7 +16,7 @@ use Rattle.px_chain.proofs.FrontLaws.{bytes_more, bytes_shut, closed_more, close
 use Rattle.px_http.specs.declared.conversation.HttpConv.{HttpConv}
 use Rattle.px_stream.specs.declared.phase.Phase.{Phase}
 use Rattle.px_stream.specs.Anywhere.{HearsWaiting}
-use Rattle.px_stream.specs.Through.{IsDialling}
+use Rattle.px_stream.specs.Tells.{IsDialling}
 use Rattle.px_stack.specs.declared.child.Goal.{Goal as KeptGoal}
 use Rattle.px_stack.specs.declared.child.Goal.TheVariants as goals
 use Rattle.px_stack.specs.declared.child.Opening.{Opening}
@@ -40,13 +40,13 @@ module _ (tunnel : Tunnel) (link : Link) (prefix : List (Timed Event)) (kept : O
       record {
         opening = record {
           flow = opening.flow;
-          server = opening.server;
+          dials = opening.dials;
           address = opening.address;
           proxy = opening.proxy;
           rest = ap (λ l. l ++ piece_of Client e.value) opening.rest
-              ∙ sym (ap (drop tunnel.at.used) more ∙ drop-append-le tunnel.at.used (bytes_of Client prefix) (piece_of Client e.value) opening.used);
+              ∙ sym (ap (drop tunnel.used) more ∙ drop-append-le tunnel.used (bytes_of Client prefix) (piece_of Client e.value) opening.used);
           few = opening.few;
-          used = longer_bytes tunnel.at.used _ _ _ more opening.used;
+          used = longer_bytes tunnel.used _ _ _ more opening.used;
         };
         last = at.last;
         dials = at.dials;
@@ -62,12 +62,12 @@ module _ (tunnel : Tunnel) (link : Link) (prefix : List (Timed Event)) (kept : O
       record {
         opening = record {
           flow = opening.flow;
-          server = opening.server;
+          dials = opening.dials;
           address = opening.address;
           proxy = opening.proxy;
-          rest = opening.rest ∙ ap (drop tunnel.at.used) (sym same);
+          rest = opening.rest ∙ ap (drop tunnel.used) (sym same);
           few = opening.few;
-          used = longer_bytes tunnel.at.used _ [] _ (same ∙ sym (append-nil (bytes_of Client prefix))) opening.used;
+          used = longer_bytes tunnel.used _ [] _ (same ∙ sym (append-nil (bytes_of Client prefix))) opening.used;
         };
         last = at.last;
         dials = at.dials;
@@ -110,6 +110,7 @@ hears_flow boxed after event hears same conv client moment (a_flow place from) l
       at = led.at;
       stage = led.stage;
       from_is = led.from_is;
+      used_is = led.used_is;
       there = hears.hears (terms_of conv client.address place) (ahead_at place) led.standing prefix moment led.at from.flow led.stage led.in_time led.there;
       in_time = in_time_more led.at.parked led.standing.opened prefix e led.there.is_at.within.opened led.in_time;
       dialled = led.dialled;

@@ -12,14 +12,13 @@ use Rattle.px_event.proofs.Steps.{Takes, Resumes, onward, past_end}
 use Rattle.px_exchange.specs.declared.place.Place.{Place}
 use Rattle.px_exchange.specs.declared.terms.Terms.{Terms}
 use Rattle.px_exchange.specs.Places.{terms_of}
-use Rattle.px_chain.specs.Chain.{http_chain, pass, sequence}
+use Rattle.px_chain.specs.Chain.{http_chain, passed, sequence}
 use Rattle.px_chain.specs.Sights.{IsWithin, Standing, sight_over}
 use Rattle.px_chain.specs.Stages.{place_of}
 use Rattle.px_chain.proofs.FrontLaws.{now_here, now_more}
 use Rattle.px_http.specs.declared.conversation.HttpConv.{HttpConv}
-use Rattle.px_stream.specs.Anywhere.{Somewhere}
-use Rattle.px_stream.specs.Left.{sequence_left}
-use Rattle.px_stream.specs.Sequence.{IsInSequence}
+use Rattle.px_stream.specs.Anywhere.{IsInSequence, Somewhere}
+use Rattle.px_stream.specs.Tells.{sequence_left}
 use Rattle.px_stack.specs.declared.child.Child.{Child}
 use Rattle.px_stack.specs.declared.child.Child.TheVariants as children
 use Rattle.px_stack.specs.Chain.{flows_at, stack_chain, turn_flows}
@@ -82,7 +81,7 @@ not_ended (Ends other) conv client boxed stage prefix owed is ends = let no : ch
 -- ---- a side that is parked was connected before the client closed, over one event more and behind a reply
 
 later : (standing : Standing) (prefix : List (Timed Event)) (e : Timed Event) → IsWithin standing prefix → InTime standing prefix →
-    InTime (record standing { stage = pass standing.stage (sight_over standing (prefix ++ e ∷ [])) }) (prefix ++ e ∷ [])
+    InTime (passed standing (sight_over standing (prefix ++ e ∷ []))) (prefix ++ e ∷ [])
 later standing prefix e within in_time =
     in_time_passed standing (prefix ++ e ∷ []) (in_time_more (place_of standing.stage).parked standing.opened prefix e within.opened in_time)
 

@@ -1,5 +1,5 @@
 -- HTTP begins in a tunnel.
-use Rattle.std.proofs.Common.{◌≡◌, ℕ, ◌≤◌, ◌+◌, false, List, [], ◌∷◌, ◌++◌, length, drop, Option, Some, None, refl, ap, sym, ◌∙◌, subst, arith}
+use Rattle.std.proofs.Common.{◌≡◌, ℕ, ◌≤◌, ◌+◌, false, List, [], ◌∷◌, ◌++◌, Some, None, refl, ap, sym, ◌∙◌, subst, arith}
 use Rattle.std.specs.Prelude.{◌-◌, ◌*◌, if◌then◌else◌, IfOk, Result, Ok, Err}
 use Rattle.std.proofs.lemmas.Bool.{eq-eqb}
 use Rattle.std.proofs.lemmas.List.{append-nil}
@@ -18,16 +18,14 @@ use Rattle.px_exchange.specs.Places.{terms_of}
 use Rattle.px_http.specs.declared.conversation.HttpConv.{HttpConv}
 use Rattle.px_http.specs.Stands.{awaits}
 use Rattle.px_chain.specs.Sights.{sight_over}
-use Rattle.px_chain.specs.Stages.{Parked}
-use Rattle.px_chain.specs.Streams.{Since, bytes_of}
-use Rattle.px_stream.specs.declared.link.Link.{Link as KeptLink}
+use Rattle.px_chain.specs.Stages.{At, idle}
+use Rattle.px_chain.specs.Streams.{Since}
 use Rattle.px_stream.specs.declared.stream.Stream.{Stream}
-use Rattle.px_stream.specs.Anywhere.{Begins, IsNew, MayBegin, Waits}
-use Rattle.px_stream.specs.Left.{sequence_by, sequence_left}
-use Rattle.px_stream.specs.Phases.{new_link, parked_at}
+use Rattle.px_stream.specs.Anywhere.{Begins, IsCounted, IsNew, MayBegin, Waits}
+use Rattle.px_stream.specs.Tells.{left_by as left_in, sequence_left}
 use Rattle.px_stack.specs.declared.child.Child.{Child}
 use Rattle.px_stack.specs.declared.child.Opening.{Opening}
-use Rattle.px_stack.specs.Chain.{inner_place, inner_standing, is_shut, text_on}
+use Rattle.px_stack.specs.Chain.{inner_place, inner_standing}
 use Rattle.px_stack.specs.Kept.{awaited_by, left_by, most_asked, opened_left}
 use Rattle.px_stack.specs.Stages.{Link, Tunnel, Visitor}
 use Rattle.px_stack.specs.Steps.{Adds, AsksBehind, Follows, FollowsAt, GoesInside, IsFewDials, MayDecide}
@@ -36,49 +34,49 @@ use Rattle.px_stack.proofs.TimeLemmas.{open_in_time}
 
 -- ---- HTTP begins in a tunnel
 
--- the parked side has what came of the server, of which nothing was heard yet
-parked_waits : (tunnel : Tunnel) (link : Link) (since : Since) (prefix : List (Timed Event)) (address : Address) (server : ℕ) (proxy : Option Address) (rest : List ℕ)
-    (kept : Option KeptLink) → server ≡ link.side.server → link.side.used ≤ length (bytes_of (Server link.side.server) (drop link.opened prefix)) →
-    text_on link prefix ≡ rest → is_shut link prefix ≡ false → kept ≡ parked_at (places.Fixed address (Some server) proxy) →
-    Waits (inner_place tunnel link) (Some (record { side = link.side; address = tunnel.address })) (sight_over (inner_standing tunnel link since) prefix) rest kept
-parked_waits tunnel link since prefix address server proxy rest kept same within come unshut is =
-    let parked : Option Parked = Some (record { side = link.side; address = tunnel.address }) in
-    let P : Option KeptLink → Type 0 = λ k. Waits (inner_place tunnel link) parked (sight_over (inner_standing tunnel link since) prefix) rest k in
-    subst P (sym is) (record { home = refl; link = ap (λ n. new_link n false) same; within = within; come = come; unshut = unshut })
-
 -- where its requests go
 abbrev place_in : Opening → ℕ → Place
 place_in kept server = places.Fixed kept.address (Some server) kept.proxy
 
-same_place : (tunnel : Tunnel) (link : Link) (kept : Opening) (server : ℕ) → kept.address ≡ tunnel.address → server ≡ link.side.server → kept.proxy ≡ tunnel.proxy →
+same_place : (tunnel : Tunnel) (link : Link) (kept : Opening) (server : ℕ) → kept.address ≡ tunnel.address → server ≡ link.server → kept.proxy ≡ tunnel.proxy →
     place_in kept server ≡ inner_place tunnel link
 same_place tunnel link kept server at is through =
     ap (λ a. places.Fixed a (Some server) kept.proxy) at
-    ∙ (ap (λ n. places.Fixed tunnel.address (Some n) kept.proxy) is ∙ ap (λ p. places.Fixed tunnel.address (Some link.side.server) p) through)
+    ∙ (ap (λ n. places.Fixed tunnel.address (Some n) kept.proxy) is ∙ ap (λ p. places.Fixed tunnel.address (Some link.server) p) through)
+
+-- and where it begins: the server's side is parked
+abbrev new_at : Opening → ℕ → At
+new_at kept server = record { flow = kept.flow; dials = kept.dials; parked = Some (record { server = server; address = kept.address }) }
+
+at_as : (flow flow' dials dials' server server' : ℕ) (address address' : Address) → flow ≡ flow' → dials ≡ dials' → server ≡ server' → address ≡ address' →
+    (let a : At = record { flow = flow; dials = dials; parked = Some (record { server = server; address = address }) } in a)
+    ≡ (let b : At = record { flow = flow'; dials = dials'; parked = Some (record { server = server'; address = address' }) } in b)
+at_as flow flow' dials dials' server server' address address' p q s t = rw (p, q, s, t) refl
 
 module _ (conv : ℕ) (client : Visitor) (kept : Opening) (server : ℕ) (rest : List ℕ) (moment : ℕ) (before : Stream)
     (terms : before.terms ≡ terms_of conv client.address (place_in kept server))
-    (numbers : before.numbers ≡ record { flow = kept.numbers.flow; server = kept.numbers.server })
-    (unheard : before.parked ≡ parked_at (place_in kept server)) where
+    (there : before.at ≡ new_at kept server) where
   may_begin : (tunnel : Tunnel) (link : Link) (since : Since) (prefix : List (Timed Event)) → MayDecide tunnel link since prefix kept server rest false moment →
       MayBegin (terms_of conv client.address (inner_place tunnel link)) 1 before moment false kept.rest rest (inner_standing tunnel link since) prefix
   may_begin tunnel link since prefix at =
       let opening = at.opened.opening in
       let last = at.opened.last in
       let dials = at.opened.dials in
+      let stands : At = record tunnel.at { parked = Some (record { server = link.server; address = tunnel.address }) } in
+      let is_there : before.at ≡ stands =
+      there ∙ at_as kept.flow tunnel.at.flow kept.dials tunnel.at.dials server link.server kept.address tunnel.address opening.flow opening.dials at.opened.same opening.address in
+      let few_dials : tunnel.at.dials ≤ tunnel.at.flow + 1 = omega arith in
+      let C : At → Type 0 = IsCounted 1 in
+      let W : At → Type 0 = λ a. Waits a.parked (sight_over (inner_standing tunnel link since) prefix) rest in
       record {
         terms = terms ∙ ap (λ p. terms_of conv client.address p) (same_place tunnel link kept server opening.address at.opened.same opening.proxy);
-        at = record tunnel.at { parked = Some (record { side = link.side; address = tunnel.address }) };
-        stage = refl;
-        flow = ap (λ n. n.flow) numbers ∙ opening.flow;
-        server = ap (λ n. n.server) numbers ∙ opening.server;
-        few = record { few = opening.few; dials = omega arith };
+        stage = ap idle (sym is_there);
+        few = subst C (sym is_there) (record { few = opening.few; dials = few_dials });
         small = omega arith;
-        used = opening.used;
         come = sym opening.rest;
         client = at.client;
-        parked = parked_waits tunnel link since prefix kept.address server kept.proxy rest before.parked at.opened.same at.opened.used at.come at.unshut unheard;
-        within = record { since = at.opened.come; opened = at.opened.opened };
+        waits = subst W (sym is_there) (at.come, at.unshut);
+        within = record { since = at.opened.come; opened = at.opened.opened; client = opening.used; server = at.opened.used };
         now = at.now;
       }
 
@@ -89,7 +87,7 @@ module _ (conv : ℕ) (client : Visitor) (kept : Opening) (server : ℕ) (rest :
     follows_at tunnel link since prefix at =
         follows.holds conv client (inner_place tunnel link) (inner_standing tunnel link since) prefix refl at.now
         (begins.begins (terms_of conv client.address (inner_place tunnel link)) 1 (inner_standing tunnel link since) prefix (may_begin tunnel link since prefix at)).is_there
-        (open_in_time (Some (record { side = link.side; address = tunnel.address })) link.opened prefix at.client)
+        (open_in_time (Some (record { server = link.server; address = tunnel.address })) link.opened prefix at.client)
 
     goes_inside : GoesInside conv client kept server rest moment next (begins.more ++ follows.more)
     goes_inside tunnel link since prefix at =
@@ -105,10 +103,10 @@ module _ (conv : ℕ) (client : Visitor) (kept : Opening) (server : ℕ) (rest :
 
 -- somewhere it may be so: each side sent this and nothing else
 abbrev some_tunnel : Opening → Tunnel
-some_tunnel kept = record { at = record { flow = kept.numbers.flow; dials = kept.numbers.server; used = 0; parked = None }; address = kept.address; proxy = kept.proxy }
+some_tunnel kept = record { at = record { flow = kept.flow; dials = kept.dials; parked = None }; used = 0; address = kept.address; proxy = kept.proxy }
 
 abbrev some_link : ℕ → Link
-some_link server = record { side = record { server = server; used = 0 }; opened = 0 }
+some_link server = record { server = server; used = 0; opened = 0 }
 
 abbrev some_prefix : List ℕ → ℕ → List ℕ → ℕ → List (Timed Event)
 some_prefix sent server rest moment =
@@ -118,7 +116,7 @@ some_decides : (kept : Opening) (server : ℕ) (rest : List ℕ) (moment : ℕ) 
     MayDecide (some_tunnel kept) (some_link server) (record { events = 0; moment = moment }) (some_prefix kept.rest server rest moment) kept server rest false moment
 some_decides kept server rest moment few = record {
   opened = record {
-    opening = record { flow = refl; server = refl; address = refl; proxy = refl; rest = sym (append-nil kept.rest); few = few.few; used = omega arith };
+    opening = record { flow = refl; dials = refl; address = refl; proxy = refl; rest = sym (append-nil kept.rest); few = few.few; used = omega arith };
     same = refl;
     last = few.last;
     dials = few.dials;
@@ -139,8 +137,7 @@ idle_left flow = omega arith
 
 module _ (conv : ℕ) (client : Visitor) (kept : Opening) (server : ℕ) (rest : List ℕ) (moment : ℕ) (key : List ℕ) (keyed : client.key ≡ key) (before : Stream)
     (terms : before.terms ≡ terms_of conv client.address (place_in kept server))
-    (numbers : before.numbers ≡ record { flow = kept.numbers.flow; server = kept.numbers.server })
-    (unheard : before.parked ≡ parked_at (place_in kept server))
+    (there : before.at ≡ new_at kept server)
     (after : HttpConv) (out mid longer : List Command) (begins : Begins before after.stream moment false kept.rest rest out mid) where
   -- whose key is the client's
   keyed_follows : (next : Child) → Adds (Follows key moment after next) mid longer → Adds (Follows client.key moment after next) mid longer
@@ -148,7 +145,7 @@ module _ (conv : ℕ) (client : Visitor) (kept : Opening) (server : ℕ) (rest :
 
   pub inside_begun : {E : Type 0} (result : Result Child E) → IfOk result (λ next. Adds (Follows key moment after next) mid longer) →
       IfOk result (λ next. Adds (GoesInside conv client kept server rest moment next) out longer)
-  inside_begun (Ok next) follows = begun_inside conv client kept server rest moment before terms numbers unheard after next out mid longer begins (keyed_follows next follows)
+  inside_begun (Ok next) follows = begun_inside conv client kept server rest moment before terms there after next out mid longer begins (keyed_follows next follows)
   inside_begun (Err error) follows = tt
 
   pub inside_asks : {E : Type 0} → AsksOnly (awaits after) out mid → (result : Result Child E) → IfOk result (λ next. AsksBehind after next mid longer) →
@@ -159,10 +156,10 @@ module _ (conv : ℕ) (client : Visitor) (kept : Opening) (server : ℕ) (rest :
   inside_left : IsNew before → IsFewDials kept server → sequence_left after.stream ≤ sequence_left before → (next : Child) →
       Adds (Follows client.key moment after next) mid longer → left_by next ≤ opened_left
   inside_left new few less next follows =
-      let left = (follows_at conv client kept server rest moment before terms numbers unheard after next out mid longer begins follows
+      let left = (follows_at conv client kept server rest moment before terms there after next out mid longer begins follows
       (some_tunnel kept) (some_link server) (record { events = 0; moment = moment }) (some_prefix kept.rest server rest moment) (some_decides kept server rest moment few)).left in
-      let whole : sequence_left before ≡ 5 * (1000000 - before.numbers.flow) + 5 = ap (λ p. sequence_by before.numbers p) new.phase in
-      let bound = idle_left before.numbers.flow in
+      let whole : sequence_left before ≡ 5 * (1000000 - before.at.flow) + 5 = ap (left_in before.at) new.phase in
+      let bound = idle_left before.at.flow in
       omega arith
 
   pub inside_bound : {E : Type 0} → IsNew before → IsFewDials kept server → sequence_left after.stream ≤ sequence_left before → (result : Result Child E) →

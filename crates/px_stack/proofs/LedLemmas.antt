@@ -17,17 +17,19 @@ use Rattle.px_chain.specs.Stages as stages
 use Rattle.px_chain.specs.Streams.{client_closed}
 use Rattle.px_http.specs.declared.conversation.HttpConv.{HttpConv}
 use Rattle.px_read.specs.Reader.{State}
+use Rattle.px_stream.specs.declared.link.Link.{Link as KeptLink}
+use Rattle.px_stream.specs.declared.phase.Asked.{Asked}
 use Rattle.px_stream.specs.declared.phase.Asked.TheVariants as asked
 use Rattle.px_stream.specs.declared.phase.Phase.{Phase}
 use Rattle.px_stream.specs.declared.phase.Phase.TheVariants as phase
-use Rattle.px_stream.specs.Sequence.{IsInSequence}
-use Rattle.px_stream.specs.Stands.{Dials, HasPlace, IsPlaced, PhaseAt}
-use Rattle.px_stream.specs.Through.{IsDialling, dialled_flow, led_to, server_dialled}
-use Rattle.px_stream.specs.Through as through
-use Rattle.px_stream.proofs.WaitLemmas.{asked_at, is_at_dial}
+use Rattle.px_stream.specs.Anywhere.{IsInSequence}
+use Rattle.px_stream.specs.Stands.{HasPlace, IsPlaced, PhaseAt}
+use Rattle.px_stream.specs.Tells.{IsDialling, dialled_flow, led_to, server_dialled}
+use Rattle.px_stream.specs.Tells as tells
+use Rattle.px_stream.proofs.WaitLemmas.{is_at_dial}
 use Rattle.px_stack.specs.Chain.{led_at, led_by, turn_flows, turn_http}
 use Rattle.px_stack.specs.Stages.{Dialling, Visitor}
-use Rattle.px_stack.specs.Stands.{IsInFlows}
+use Rattle.px_stack.specs.Stands.{IsInFlows, ahead_at}
 use Rattle.px_stack.specs.Steps.{IsPlain}
 
 -- ---- a reply that is not the connection of another proxy
@@ -50,41 +52,45 @@ module _ (conv : ℕ) (client : Visitor) (place : Place) (standing : Standing) (
 
 -- ---- by the phase
 
-module _ (terms : Terms) (requests : State) (found : Phase) (seen : Sight) where
-  -- where a flow's dial is awaited in the chain, it is in the machine
-  dialled_phase : (at : At) (flow : Flow) → PhaseAt (look terms (busy at flow connection) seen) terms requests found (busy at flow connection) seen →
-      found ≡ phase.Asked (asked.Dial flow at.dials)
-  dialled_phase at flow (awaits, same, is) = same ∙ ap phase.Asked is.phase
+same_asked : (a b : Asked) → Some b ≡ Some a → a ≡ b
+same_asked a b is = cc
 
-  none_led : (stage : stages.Stage) → PhaseAt (look terms stage seen) terms requests found stage seen → server_dialled found ≡ None → led_by stage ≡ None
-  none_led (idle at) is none = refl
-  none_led (busy at flow (request_body given)) is none = refl
-  none_led (busy at flow connection) is none =
+module _ (terms : Terms) (here : At) (requests : State) (side : Option KeptLink) (found : Phase) (seen : Sight) where
+  -- where a flow's dial is awaited in the chain, it is in the machine
+  dialled_phase : (at : At) (flow : Flow) → PhaseAt (look terms (busy at flow connection) seen) terms here requests side found (busy at flow connection) seen →
+      found ≡ phase.Asked (asked.Connection flow at.dials)
+  dialled_phase at flow (awaits, same, is) = same ∙ ap phase.Asked (same_asked awaits (asked.Connection flow at.dials) is.asks)
+
+  none_led : (used : ℕ) (stage : stages.Stage) → PhaseAt (look terms stage seen) terms here requests side found stage seen → server_dialled found ≡ None → led_by used stage ≡ None
+  none_led used (idle at) is none = refl
+  none_led used (busy at flow (request_body given)) is none = refl
+  none_led used (busy at flow connection) is none =
       absurd (let no : Some (address_of flow.request) ≡ None = sym (ap server_dialled (dialled_phase at flow is)) ∙ none in cc)
-  none_led (busy at flow (response_head side how)) is none = refl
-  none_led (busy at flow (response_body side how)) is none = refl
-  none_led (busy at flow (upgraded side)) is none = refl
-  none_led (busy at flow given_head) is none = refl
-  none_led (busy at flow given_body) is none = refl
-  none_led (next at) is none = refl
-  none_led stages.over is none = refl
+  none_led used (busy at flow (response_head side how)) is none = refl
+  none_led used (busy at flow (response_body side how)) is none = refl
+  none_led used (busy at flow (upgraded side)) is none = refl
+  none_led used (busy at flow given_head) is none = refl
+  none_led used (busy at flow given_body) is none = refl
+  none_led used (next at) is none = refl
+  none_led used stages.over is none = refl
 
 none_at : (conv : ℕ) (client : Visitor) (place : Place) (flows : HttpConv) (standing : Standing) (prefix : List (Timed Event)) →
-    IsInFlows conv client place flows standing prefix → led_to place flows.stream.phase ≡ None → led_at place standing.stage ≡ None
+    IsInFlows conv client place flows standing prefix → led_to place flows.stream.phase ≡ None → led_at place standing ≡ None
 none_at conv client places.Regular flows standing prefix at none = refl
 none_at conv client (places.Upstream proxy) flows standing prefix at none = refl
 none_at conv client (places.Fixed address side None) flows standing prefix at none = refl
 none_at conv client (places.Fixed address side (Some proxy)) flows standing prefix at none =
-    none_led (terms_of conv client.address (places.Fixed address side (Some proxy))) flows.stream.requests flows.stream.phase (sight_over standing prefix) standing.stage
+    none_led (terms_of conv client.address (places.Fixed address side (Some proxy))) flows.stream.at flows.stream.requests flows.stream.side flows.stream.phase
+    (sight_over standing prefix) standing.used.client standing.stage
     at.is_at.is_in.phase none
 
 pub plain_turn : (conv : ℕ) (client : Visitor) (place : Place) (flows : HttpConv) (standing : Standing) (prefix : List (Timed Event)) (moment : ℕ) (value : Reply) →
     IsInFlows conv client place flows standing prefix → IsPlain flows value →
-    turn_http conv client (led_at place standing.stage) place standing prefix (record { moment = moment; value = value }) value
+    turn_http conv client (led_at place standing) place standing prefix (record { moment = moment; value = value }) value
     ≡ turn_flows conv client place standing prefix (record { moment = moment; value = value })
 plain_turn conv client place flows standing prefix moment value at plain =
     let P : Terms → Type 0 = λ t. led_to t.place flows.stream.phase ≡ None in
-    plain_by conv client place standing prefix (record { moment = moment; value = value }) (led_at place standing.stage) value
+    plain_by conv client place standing prefix (record { moment = moment; value = value }) (led_at place standing) value
     (λ is. none_at conv client place flows standing prefix at (subst P at.is_at.is_in.terms (plain is)))
 
 -- ---- a flow whose dial is awaited
@@ -95,22 +101,22 @@ module _ (terms : Terms) (ahead : ℕ) (flows : HttpConv) (standing : Standing) 
   abbrev seen_there : Sight
   seen_there = sight_over standing prefix
 
-  placed : IsPlaced at seen_there flows.stream.numbers flows.stream.client_closed
-  placed = let P : stages.Stage → Type 0 = λ s. HasPlace s seen_there flows.stream.numbers flows.stream.client_closed in subst P stage there.is_at.is_in.place
+  placed : IsPlaced at seen_there flows.stream.at flows.stream.client_closed
+  placed = let P : stages.Stage → Type 0 = λ s. HasPlace s seen_there flows.stream.at flows.stream.client_closed in subst P stage there.is_at.is_in.place
 
   -- whether its client has closed
   pub closed_there : flows.stream.client_closed ≡ client_closed prefix
   closed_there = placed.client
 
   -- the number of its server
-  pub server_there : flows.stream.numbers.server ≡ at.dials
-  server_there = let P : stages.Stage → Type 0 = Dials in placed.servers (subst P stage there.is_at.is_in.dials)
+  pub server_there : flows.stream.at.dials ≡ at.dials
+  server_there = ap (λ (a : At). a.dials) placed.is_here
 
   -- and the flow
   pub flow_there : dialled_flow flows.stream.phase ≡ Some flow
   flow_there =
-      let P : stages.Stage → Type 0 = λ s. PhaseAt (look terms s seen_there) terms flows.stream.requests flows.stream.phase s seen_there in
-      ap dialled_flow (dialled_phase terms flows.stream.requests flows.stream.phase seen_there at flow (subst P stage there.is_at.is_in.phase))
+      let P : stages.Stage → Type 0 = λ s. PhaseAt (look terms s seen_there) terms flows.stream.at flows.stream.requests flows.stream.side flows.stream.phase s seen_there in
+      ap dialled_flow (dialled_phase terms flows.stream.at flows.stream.requests flows.stream.side flows.stream.phase seen_there at flow (subst P stage there.is_at.is_in.phase))
 
 -- ---- a flow that is led on
 
@@ -119,20 +125,31 @@ pub record IsLed (place : Place) (flows : HttpConv) (standing : Standing) (addre
   pub at : At
   pub flow : Flow
   pub stage : standing.stage ≡ busy at flow connection
-  pub led : led_at place standing.stage ≡ Some (record { at = unparked at; flow = flow })
+  pub led : led_at place standing ≡ Some (record { at = unparked at; used = standing.used.client; flow = flow })
   pub there : address ≡ address_of flow.request
   pub waits : IsDialling flows.stream.phase
 
-led_dials : (proxy : Option Address) (found : Phase) (address : Address) → through.led_by proxy found ≡ Some address → IsDialling found
+led_dials : (proxy : Option Address) (found : Phase) (address : Address) → tells.led_by proxy found ≡ Some address → IsDialling found
 led_dials None found address is = absurd (let no : None ≡ Some address = is in cc)
-led_dials (Some proxy) (phase.Asked (asked.Dial flow server)) address is = tt
-led_dials (Some proxy) (phase.Asked (asked.Head flow expects)) address is = absurd (let no : None ≡ Some address = is in cc)
-led_dials (Some proxy) (phase.Asked (asked.Body flow)) address is = absurd (let no : None ≡ Some address = is in cc)
-led_dials (Some proxy) (phase.Asked (asked.Answer flow link)) address is = absurd (let no : None ≡ Some address = is in cc)
-led_dials (Some proxy) (phase.Asked (asked.Returned flow link)) address is = absurd (let no : None ≡ Some address = is in cc)
+led_dials (Some proxy) (phase.Asked (asked.Connection flow server)) address is = tt
+led_dials (Some proxy) (phase.Asked (asked.Idle flow expects)) address is = absurd (let no : None ≡ Some address = is in cc)
+led_dials (Some proxy) (phase.Asked (asked.RequestBody flow)) address is = absurd (let no : None ≡ Some address = is in cc)
+led_dials (Some proxy) (phase.Asked (asked.ResponseHead flow server)) address is = absurd (let no : None ≡ Some address = is in cc)
+led_dials (Some proxy) (phase.Asked (asked.ResponseBody flow server)) address is = absurd (let no : None ≡ Some address = is in cc)
 led_dials (Some proxy) (phase.Asked (asked.GivenHead flow)) address is = absurd (let no : None ≡ Some address = is in cc)
 led_dials (Some proxy) (phase.Asked (asked.GivenBody flow)) address is = absurd (let no : None ≡ Some address = is in cc)
 led_dials (Some proxy) (phase.Ready looked) address is = absurd (let no : None ≡ Some address = is in cc)
+
+-- where the server of the flow is that is dialled
+dialled_server : (found : Phase) (flow : Flow) → dialled_flow found ≡ Some flow → server_dialled found ≡ Some (address_of flow.request)
+dialled_server (phase.Asked (asked.Connection here server)) flow is = let same : here ≡ flow = cc in ap (λ f. Some (address_of f.request)) same
+dialled_server (phase.Asked (asked.Idle here expects)) flow is = absurd (let no : None ≡ Some flow = is in cc)
+dialled_server (phase.Asked (asked.RequestBody here)) flow is = absurd (let no : None ≡ Some flow = is in cc)
+dialled_server (phase.Asked (asked.ResponseHead here server)) flow is = absurd (let no : None ≡ Some flow = is in cc)
+dialled_server (phase.Asked (asked.ResponseBody here server)) flow is = absurd (let no : None ≡ Some flow = is in cc)
+dialled_server (phase.Asked (asked.GivenHead here)) flow is = absurd (let no : None ≡ Some flow = is in cc)
+dialled_server (phase.Asked (asked.GivenBody here)) flow is = absurd (let no : None ≡ Some flow = is in cc)
+dialled_server (phase.Ready looked) flow is = absurd (let no : None ≡ Some flow = is in cc)
 
 same_address : (a b : Address) → Some a ≡ Some b → b ≡ a
 same_address a b is = cc
@@ -142,16 +159,17 @@ module _ (conv : ℕ) (client : Visitor) (flows : HttpConv) (standing : Standing
       IsInFlows conv client (places.Fixed address side (Some proxy)) flows standing prefix → server_dialled flows.stream.phase ≡ Some to →
       IsLed (places.Fixed address side (Some proxy)) flows standing to
   led_on address side proxy at is =
+      let place : Place = places.Fixed address side (Some proxy) in
       let dials = led_dials (Some proxy) flows.stream.phase to is in
-      let (here, live) = asked_at flows.stream.phase dials in
-      let there = is_at_dial (terms_of conv client.address (places.Fixed address side (Some proxy))) flows.stream here standing.stage (sight_over standing prefix) dials live at.is_at.is_in in
-      let goes_to : server_dialled flows.stream.phase ≡ Some (address_of there.flow.request) = ap server_dialled (live ∙ ap phase.Asked there.dials) in
+      let there = is_at_dial (terms_of conv client.address place) flows.stream standing.stage (sight_over standing prefix) dials at.is_at.is_in in
+      let flow_is : dialled_flow flows.stream.phase ≡ Some there.flow =
+      flow_there (terms_of conv client.address place) (ahead_at place) flows standing prefix there.at there.flow there.stage_is at in
       record {
         at = there.at;
         flow = there.flow;
         stage = there.stage_is;
-        led = ap led_by there.stage_is;
-        there = same_address (address_of there.flow.request) to (sym goes_to ∙ is);
+        led = ap (led_by standing.used.client) there.stage_is;
+        there = same_address (address_of there.flow.request) to (sym (dialled_server flows.stream.phase there.flow flow_is) ∙ is);
         waits = dials;
       }
 

@@ -10,7 +10,7 @@ use Rattle.px_message.specs.declared.fault.Fault.TheVariants.{UpstreamRefused}
 use Rattle.px_message.specs.declared.flow.Flow.{Flow}
 use Rattle.px_event.specs.declared.command.Command.{Command}
 use Rattle.px_event.specs.declared.event.Event.{Event}
-use Rattle.px_event.specs.declared.side.Side.TheVariants.{Server}
+use Rattle.px_event.specs.declared.side.Side.TheVariants.{Client, Server}
 use Rattle.px_event.specs.Chain.{Timed, Turn}
 use Rattle.px_event.specs.Laws.{owed_here}
 use Rattle.px_event.specs.Layer.{AsksOnly, asks_in}
@@ -32,8 +32,7 @@ use Rattle.px_stream.specs.declared.phase.Asked.TheVariants as asked
 use Rattle.px_stream.specs.declared.phase.Phase.{Phase}
 use Rattle.px_stream.specs.declared.phase.Phase.TheVariants as phase
 use Rattle.px_stream.specs.Anywhere.{MayReach, OpensInTime, Reaches, Somewhere}
-use Rattle.px_stream.specs.Left.{sequence_left}
-use Rattle.px_stream.specs.Through.{IsDialling, dialled_flow}
+use Rattle.px_stream.specs.Tells.{IsDialling, dialled_flow, sequence_left}
 use Rattle.px_stack.specs.declared.child.Child.{Child}
 use Rattle.px_stack.specs.declared.child.Child.TheVariants as children
 use Rattle.px_stack.specs.declared.child.Goal.{Goal as KeptGoal}
@@ -62,15 +61,15 @@ heard_open false text is = refl
 
 -- this is what came of it there, and its side is open
 record IsWay (link way : Link) (prefix : List (Timed Event)) (rest : List ℕ) : Type 0 where
-  server : way.side.server ≡ link.side.server
+  server : way.server ≡ link.server
   opened : way.opened ≤ length prefix
-  used : way.side.used ≤ length (bytes_of (Server way.side.server) (drop way.opened prefix))
+  used : way.used ≤ length (bytes_of (Server way.server) (drop way.opened prefix))
   come : text_on way prefix ≡ rest
   unshut : is_shut way prefix ≡ false
 
 module _ (link : Link) (used : ℕ) (prefix : List (Timed Event)) (rest : List ℕ) (opened : link.opened ≤ length prefix) (behind : IsBehind link used prefix rest) where
   abbrev come_of : List ℕ
-  come_of = text_of link.side.server (drop link.opened prefix)
+  come_of = text_of link.server (drop link.opened prefix)
 
   way_there : (none : Bool) → is_empty rest ≡ none → IsWay link (way_by none link used (length prefix)) prefix rest
   way_there true none =
@@ -79,20 +78,20 @@ module _ (link : Link) (used : ℕ) (prefix : List (Timed Event)) (rest : List �
         server = refl;
         opened = omega arith;
         used = omega arith;
-        come = ap (bytes_of (Server link.side.server)) gone ∙ sym (no_text rest none);
-        unshut = ap (is_closed (Server link.side.server)) gone;
+        come = ap (bytes_of (Server link.server)) gone ∙ sym (no_text rest none);
+        unshut = ap (is_closed (Server link.server)) gone;
       }
   way_there false some =
       let open_still : client_closed prefix ≡ false = heard_open (client_closed prefix) (drop used come_of) (ap is_empty (sym behind.rest_is) ∙ some) in
       let open_there = open_behind link.opened prefix open_still in
-      let heard_is : bytes_of (Server link.side.server) (drop link.opened prefix) ≡ come_of = same_text link.side.server (drop link.opened prefix) open_there in
+      let heard_is : bytes_of (Server link.server) (drop link.opened prefix) ≡ come_of = same_text link.server (drop link.opened prefix) open_there in
       let P : List ℕ → Type 0 = λ l. used ≤ length l in
       record {
         server = refl;
         opened = opened;
         used = subst P (sym heard_is) behind.within;
         come = ap (drop used) heard_is ∙ sym (behind.rest_is ∙ ap (λ c. unless_closed c (drop used come_of)) open_still);
-        unshut = same_close link.side.server (drop link.opened prefix) open_there ∙ behind.unshut;
+        unshut = same_close link.server (drop link.opened prefix) open_there ∙ behind.unshut;
       }
 
   is_way : IsWay link (way_to link used prefix) prefix rest
@@ -106,7 +105,7 @@ behind_head : (link : Link) (prefix : List (Timed Event)) (closed : Bool) (rest 
 behind_head link prefix closed rest heard client is lets = record {
   unshut = lets.unshut;
   rest_is = is ∙ (ap (λ c. unless_closed c rest) client ∙ ap (unless_closed (client_closed prefix)) lets.rest_is);
-  within = granted_within (text_of link.side.server (drop link.opened prefix)) (closed_of link.side.server (drop link.opened prefix)) lets.used lets.answer;
+  within = granted_within (text_of link.server (drop link.opened prefix)) (closed_of link.server (drop link.opened prefix)) lets.used lets.answer;
 }
 
 -- ---- a tunnel of the client's
@@ -117,7 +116,7 @@ few_dials conv client (a_tunnel tunnel) link since prefix server kept closed mom
     let asked : IsAskedFor tunnel link prefix kept closed = may.waiting in
     let flow = asked.opening.flow in
     let few = asked.opening.few in
-    let next = asked.opening.server in
+    let next = asked.opening.dials in
     let last = asked.last in
     let dials = asked.dials in
     let same = may.same in
@@ -171,11 +170,11 @@ pub same_flow : (a b : Flow) → Some a ≡ Some b → a ≡ b
 same_flow a b is = cc
 
 -- what is owed by that, with the proxy's side and by whether the client had closed before
-proxy_is : (link : Link) (prefix : List (Timed Event)) (server : ℕ) (shut before : Bool) → server ≡ link.side.server → IsTurnedAway link prefix shut before →
+proxy_is : (link : Link) (prefix : List (Timed Event)) (server : ℕ) (shut before : Bool) → server ≡ link.server → IsTurnedAway link prefix shut before →
     (owes : Used → Bool → List Command) → owes (ByServer server shut) before ≡ owes (used_proxy link prefix) (closed_before link prefix)
 proxy_is link prefix server shut before same turned owes =
     ap (λ n. owes (ByServer n shut) before) same
-    ∙ (ap (λ b. owes (ByServer link.side.server b) before) turned.shut_is ∙ ap (owes (used_proxy link prefix)) turned.before_is)
+    ∙ (ap (λ b. owes (ByServer link.server b) before) turned.shut_is ∙ ap (owes (used_proxy link prefix)) turned.before_is)
 
 module _ (conv : ℕ) (client : Visitor) (server : ℕ) (shut before : Bool) (moment : ℕ) where
   -- nothing follows it
@@ -216,7 +215,7 @@ same_dial : (a b : At) (f g : Flow) → busy a f connection ≡ busy b g connect
 same_dial a b f g is = (let e : b ≡ a = cc in e, let e : g ≡ f = cc in e)
 
 module _ (conv : ℕ) (client : Visitor) (boxed : Box HttpConv) (place : Place) (from : Dialling) (link : Link) (since : Since) (prefix : List (Timed Event)) (used : ℕ)
-    (rest : List ℕ) (moment : ℕ) (may : MayGoOn conv client (a_flow place from) link since prefix link.side.server (goals.Flow boxed) moment) (behind : IsBehind link used prefix rest) where
+    (rest : List ℕ) (moment : ℕ) (may : MayGoOn conv client (a_flow place from) link since prefix link.server (goals.Flow boxed) moment) (behind : IsBehind link used prefix rest) where
   abbrev reached_since : Since
   reached_since = from_here (now_over since prefix) prefix
 
@@ -230,26 +229,25 @@ module _ (conv : ℕ) (client : Visitor) (boxed : Box HttpConv) (place : Place) 
   led = may.waiting
 
   -- its server
-  number : link.side.server ≡ led.at.dials
+  number : link.server ≡ led.at.dials
   number = led.dialled ∙ ap (λ (a : At). a.dials) led.from_is
 
   may_reach : MayReach (terms_of conv client.address place) (ahead_at place) boxed.value.stream moment rest led.standing there_on prefix
   may_reach =
       let there = is_way link used prefix rest may.opened behind in
-      let server_is : way.side.server ≡ led.at.dials = there.server ∙ number in
-      let P : ℕ → Type 0 = λ n. way.side.used ≤ length (bytes_of (Server n) (drop way.opened prefix)) in
+      let server_is : way.server ≡ from.at.dials = there.server ∙ led.dialled in
+      let U : ℕ → Type 0 = λ n. n ≤ length (bytes_of Client prefix) in
       record {
         at = led.at;
         flow = from.flow;
         dialling = led.stage;
         there = led.there;
-        side = way.side;
-        stage = ap (λ (a : At). busy (record a { dials = a.dials + 1 }) (reached place from.flow) (response_head way.side all_sent)) led.from_is;
-        server = server_is;
-        within = record { since = omega arith; opened = there.opened };
-        used = subst P server_is there.used;
-        come = ap (λ n. drop way.side.used (bytes_of (Server n) (drop way.opened prefix))) (sym server_is) ∙ there.come;
-        unshut = ap (λ n. is_closed (Server n) (drop way.opened prefix)) (sym server_is) ∙ there.unshut;
+        stage = ap (λ n. busy (record from.at { dials = from.at.dials + 1 }) (reached place from.flow) (response_head n all_sent)) server_is
+            ∙ ap (λ (a : At). busy (record a { dials = a.dials + 1 }) (reached place from.flow) (response_head a.dials all_sent)) led.from_is;
+        client = led.used_is;
+        come = there.come;
+        unshut = there.unshut;
+        within = record { since = omega arith; opened = there.opened; client = subst U (sym led.used_is) led.there.is_at.within.client; server = there.used };
         now = may.now ∙ sym (now_here (now_over since prefix) prefix);
       }
 
@@ -264,7 +262,7 @@ module _ (conv : ℕ) (client : Visitor) (boxed : Box HttpConv) (place : Place) 
         follows conv client place there_on prefix refl (may.now ∙ sym (now_here (now_over since prefix) prefix))
         (reaches.reaches (terms_of conv client.address place) (ahead_at place) led.standing there_on prefix may_reach).is_there in_time_on
 
-    leads_on : LeadsThere conv client next (reaches.more ++ second) (connected_owes place from.flow link.side.server) (flow_reached place from link used since prefix) prefix
+    leads_on : LeadsThere conv client next (reaches.more ++ second) (connected_owes place from.flow link.server) (flow_reached place from link used since prefix) prefix
     leads_on =
         let on = reached_on in
         let there = reaches.reaches (terms_of conv client.address place) (ahead_at place) led.standing there_on prefix may_reach in
@@ -293,7 +291,7 @@ module _ (conv : ℕ) (client : Visitor) (boxed : Box HttpConv) (place : Place) 
 
 -- the server's number, as the proxy's side has it
 of_side : (conv : ℕ) (client : Visitor) (goal : Goal) (link : Link) (since : Since) (prefix : List (Timed Event)) (server : ℕ) (kept : KeptGoal) (moment : ℕ) →
-    MayGoOn conv client goal link since prefix server kept moment → MayGoOn conv client goal link since prefix link.side.server kept moment
+    MayGoOn conv client goal link since prefix server kept moment → MayGoOn conv client goal link since prefix link.server kept moment
 of_side conv client goal link since prefix server kept moment may =
     record { same = refl; opened = may.opened; come = may.come; waiting = may.waiting; now = may.now }
 
@@ -308,6 +306,7 @@ led_keyed conv client key place from link prefix flows led = record {
   at = led.at;
   stage = led.stage;
   from_is = led.from_is;
+  used_is = led.used_is;
   there = led.there;
   in_time = led.in_time;
   dialled = led.dialled;
@@ -336,7 +335,7 @@ module _ (key : List ℕ) (boxed : Box HttpConv) (rest : List ℕ) (moment : ℕ
       CanReach boxed rest moment → sequence_left after.stream < sequence_left boxed.value.stream → left_by next ≤ goal_left (goals.Flow boxed)
   leads_left after next out mid second reaches follows can fewer =
       reach_left can.conv (with_key can.client key) boxed can.place can.from can.link can.since can.prefix can.used rest moment
-      (may_keyed can.conv can.client key can.place can.from can.link can.since can.prefix can.link.side.server boxed moment can.may) can.behind after next out mid second reaches follows fewer
+      (may_keyed can.conv can.client key can.place can.from can.link can.since can.prefix can.link.server boxed moment can.may) can.behind after next out mid second reaches follows fewer
 
 module _ (boxed : Box HttpConv) (rest : List ℕ) (moment : ℕ) where
   pub reach_waits : CanReach boxed rest moment → IsDialling boxed.value.stream.phase
@@ -410,11 +409,11 @@ flow_somewhere goal boxed is somewhere = let P : KeptGoal → Type 0 = IsGoalSom
 
 -- the flow that waits is there
 pub some_dialled : (found : Phase) → IsDialling found → (flow : Flow) × (dialled_flow found ≡ Some flow)
-some_dialled (phase.Asked (asked.Dial flow server)) waits = (flow, refl)
-some_dialled (phase.Asked (asked.Head flow expects)) waits = absurd waits
-some_dialled (phase.Asked (asked.Body flow)) waits = absurd waits
-some_dialled (phase.Asked (asked.Answer flow link)) waits = absurd waits
-some_dialled (phase.Asked (asked.Returned flow link)) waits = absurd waits
+some_dialled (phase.Asked (asked.Connection flow server)) waits = (flow, refl)
+some_dialled (phase.Asked (asked.Idle flow expects)) waits = absurd waits
+some_dialled (phase.Asked (asked.RequestBody flow)) waits = absurd waits
+some_dialled (phase.Asked (asked.ResponseHead flow server)) waits = absurd waits
+some_dialled (phase.Asked (asked.ResponseBody flow server)) waits = absurd waits
 some_dialled (phase.Asked (asked.GivenHead flow)) waits = absurd waits
 some_dialled (phase.Asked (asked.GivenBody flow)) waits = absurd waits
 some_dialled (phase.Ready looked) waits = absurd waits

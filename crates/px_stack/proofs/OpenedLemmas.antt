@@ -48,10 +48,10 @@ come_decides tunnel link prefix rest come = ap (λ l. decided (opening_text tunn
 -- ---- what is found
 
 pub opening_as : (link : Link) (prefix : List (Timed Event)) (shut closed : Bool) → is_shut link prefix ≡ shut → client_closed prefix ≡ closed →
-    opening_look link prefix ≡ tunnel_found (closed || shut) (closes_all link.side.server shut closed)
+    opening_look link prefix ≡ tunnel_found (closed || shut) (closes_all link.server shut closed)
 opening_as link prefix shut closed shut_is closed_is =
-    ap (λ b. tunnel_found (client_closed prefix || b) (closes_all link.side.server b (client_closed prefix))) shut_is
-    ∙ ap (λ b. tunnel_found (b || shut) (closes_all link.side.server shut b)) closed_is
+    ap (λ b. tunnel_found (client_closed prefix || b) (closes_all link.server b (client_closed prefix))) shut_is
+    ∙ ap (λ b. tunnel_found (b || shut) (closes_all link.server shut b)) closed_is
 
 some_ends : (shut closed : Bool) (owed : List Command) → (shut || closed) ≡ true → tunnel_found (closed || shut) owed ≡ Ends owed
 some_ends true true owed is = refl
@@ -89,9 +89,9 @@ module _ (conv : ℕ) (client : Visitor) (next : Child) (more : List Command) (t
   -- HTTP that begins in a tunnel does not hand over
   none_handed : hands_over (inner_place tunnel link) (inner_standing tunnel link since) prefix ≡ None
   none_handed =
-      let at : At = record tunnel.at { parked = Some (record { side = link.side; address = tunnel.address }) } in
-      ap (tunnel_for (inner_place tunnel link) at)
-      (never_connects tunnel.address (Some link.side.server) tunnel.proxy (request_in at (sight_over (inner_standing tunnel link since) prefix)))
+      let at : At = record tunnel.at { parked = Some (record { server = link.server; address = tunnel.address }) } in
+      ap (tunnel_for (inner_place tunnel link) tunnel.used at)
+      (never_connects tunnel.address (Some link.server) tunnel.proxy (request_in (sight_over (inner_standing tunnel link since) prefix)))
 
   arrives_http : client_closed prefix ≡ false → decided (opening_text tunnel prefix) (has_answered link prefix) ≡ is_http →
       Arrives conv client next more (http (inner_place tunnel link) (inner_standing tunnel link since)) prefix →
@@ -273,15 +273,15 @@ module _ (tunnel : Tunnel) (link : Link) (since : Since) (prefix : List (Timed E
   longer = prefix ++ now ∷ []
 
   text_more : opening_text tunnel longer ≡ opening_text tunnel prefix ++ piece_of Client event
-  text_more = up_more link prefix now at.client at.unshut at.opened.opened tunnel.at.used at.opened.opening.used
+  text_more = up_more link prefix now at.client at.unshut at.opened.opened tunnel.used at.opened.opening.used
 
   text_same : piece_of Client event ≡ [] → opening_text tunnel longer ≡ opening_text tunnel prefix
   text_same none = text_more ∙ nothing_more (opening_text tunnel prefix) (piece_of Client event) none
 
-  heard_more : text_on link longer ≡ piece_of (Server link.side.server) event
-  heard_more = down_more link prefix now at.client at.unshut at.opened.opened at.opened.used ∙ ap (λ l. l ++ piece_of (Server link.side.server) event) at.silent
+  heard_more : text_on link longer ≡ piece_of (Server link.server) event
+  heard_more = down_more link prefix now at.client at.unshut at.opened.opened at.opened.used ∙ ap (λ l. l ++ piece_of (Server link.server) event) at.silent
 
-  shut_more : is_shut link longer ≡ closes (Server link.side.server) event
+  shut_more : is_shut link longer ≡ closes (Server link.server) event
   shut_more = server_closes link prefix now at.client at.unshut at.opened.opened
 
   closed_more : client_closed longer ≡ closes Client event
@@ -295,19 +295,19 @@ module _ (tunnel : Tunnel) (link : Link) (since : Since) (prefix : List (Timed E
       record {
         opening = record {
           flow = at.opened.opening.flow;
-          server = at.opened.opening.server;
+          dials = at.opened.opening.dials;
           address = at.opened.opening.address;
           proxy = at.opened.opening.proxy;
           rest = ap (λ l. kept.rest ++ l) is ∙ (ap (λ l. l ++ piece_of Client event) at.opened.opening.rest ∙ sym text_more);
           few = at.opened.opening.few;
-          used = longer_bytes tunnel.at.used _ _ _ (client_more link prefix now at.client at.unshut at.opened.opened) at.opened.opening.used;
+          used = longer_bytes tunnel.used _ _ _ (client_more link prefix now at.client at.unshut at.opened.opened) at.opened.opening.used;
         };
         same = at.opened.same;
         last = at.opened.last;
         dials = at.opened.dials;
         opened = omega arith;
         come = omega arith;
-        used = longer_bytes link.side.used _ _ _ (server_more link prefix now at.client at.unshut at.opened.opened) at.opened.used;
+        used = longer_bytes link.used _ _ _ (server_more link prefix now at.client at.unshut at.opened.opened) at.opened.used;
       }
 
   opened_same : piece_of Client event ≡ [] → IsOpened tunnel link since longer kept server
@@ -316,13 +316,13 @@ module _ (tunnel : Tunnel) (link : Link) (since : Since) (prefix : List (Timed E
       subst P (append-nil kept.rest) (opened_more [] (sym none))
 
   -- where neither side brings bytes nothing is decided
-  still_more : piece_of Client event ≡ [] → piece_of (Server link.side.server) event ≡ [] → decided (opening_text tunnel longer) (has_answered link longer) ≡ still
+  still_more : piece_of Client event ≡ [] → piece_of (Server link.server) event ≡ [] → decided (opening_text tunnel longer) (has_answered link longer) ≡ still
   still_more none_up none_down =
       come_decides tunnel link longer [] (heard_more ∙ none_down)
       ∙ (ap (λ t. decided t false) (text_same none_up) ∙ by_tests (opening_text tunnel prefix) false false true at.method at.may)
 
   -- a byte of the server decides
-  raw_more : piece_of Client event ≡ [] → (bytes : List ℕ) → piece_of (Server link.side.server) event ≡ bytes → (length bytes == 0) ≡ false →
+  raw_more : piece_of Client event ≡ [] → (bytes : List ℕ) → piece_of (Server link.server) event ≡ bytes → (length bytes == 0) ≡ false →
       decided (opening_text tunnel longer) (has_answered link longer) ≡ is_raw
   raw_more none_up bytes is some =
       come_decides tunnel link longer bytes (heard_more ∙ is)
@@ -343,7 +343,7 @@ module _ (tunnel : Tunnel) (link : Link) (since : Since) (prefix : List (Timed E
         let closed_now : client_closed longer ≡ sides.closed = closed_more ∙ sym some.closed_is in
         let ended : (sides.shut || sides.closed) ≡ true = ap (λ b. b || sides.closed) some.shut_is ∙ (ap (λ b. closes (Server server) event || b) some.closed_is ∙ some.ends) in
         let none_up = none_brought Client (Server server) event some.ends in
-        let none_down = none_brought (Server link.side.server) (Server server) event some.ends in
+        let none_down = none_brought (Server link.server) (Server server) event some.ends in
         takes_to (arrives_over conv client next more tunnel link since longer (goes_still tunnel link since longer (client_closed longer) (still_more none_up none_down))
         (opening_as link longer sides.shut sides.closed shut_now closed_now
         ∙ (some_ends sides.shut sides.closed _ ended
@@ -353,7 +353,7 @@ module _ (tunnel : Tunnel) (link : Link) (since : Since) (prefix : List (Timed E
         next ≡ children.Undecided kept server → more ≡ [] →
         Takes (stack_chain conv client) (IsChild conv client) next moment event more (undecided tunnel link since) prefix
     stays_more unclosed unshut none_up none_down same none =
-        let number : server ≡ link.side.server = at.opened.same in
+        let number : server ≡ link.server = at.opened.same in
         takes_to (arrives_open conv client next more tunnel link since longer kept server (closed_more ∙ unclosed)
         (still_more none_up (ap (λ n. piece_of (Server n) event) (sym number) ∙ none_down))
         (opening_as link longer false false (shut_more ∙ (ap (λ n. closes (Server n) event) (sym number) ∙ unshut)) (closed_more ∙ unclosed))
@@ -381,7 +381,7 @@ server_decides : (tunnel : Tunnel) (link : Link) (since : Since) (prefix : List 
 server_decides tunnel link since prefix kept server at moment number bytes is =
     let event : Event = events.Piece (Server number) bytes in
     let opened = opened_same tunnel link since prefix kept server at moment event refl in
-    let brings : piece_of (Server link.side.server) event ≡ bytes =
+    let brings : piece_of (Server link.server) event ≡ bytes =
     ap (λ n. if number == n then bytes else []) (sym at.opened.same) ∙ ap (λ b. if b then bytes else []) is in
     record {
       server = at.opened.same;
@@ -420,7 +420,7 @@ module _ (conv : ℕ) (client : Visitor) (kept : Opening) (server : ℕ) (moment
       at_still conv client kept server (λ s. Takes (stack_chain conv client) (IsChild conv client) next moment event more s prefix) stage prefix there
       (λ tunnel link since at.
       let longer : List (Timed Event) = prefix ++ record { moment = moment; value = event } ∷ [] in
-      let brings : piece_of (Server link.side.server) event ≡ bytes =
+      let brings : piece_of (Server link.server) event ≡ bytes =
       ap (λ n. if number == n then bytes else []) (sym at.opened.same) ∙ ap (λ b. if b then bytes else []) is in
       takes_to tunnel link since prefix kept server at moment event conv client next more
       (arrives_raw conv client next more tunnel link since longer (closed_more tunnel link since prefix kept server at moment event) (raw_more tunnel link since prefix kept server at moment event refl bytes brings some)

@@ -27,7 +27,7 @@ use Rattle.px_exchange.specs.Endings.{ends_by_fault, refuses, shut_all, shut_cli
 use Rattle.px_exchange.specs.Places.{address_of, dialled_for, terms_of}
 use Rattle.px_chain.specs.Chain.{Connect, behind as behind_of, connect_in, look as look_of, so_far as so_far_of}
 use Rattle.px_chain.specs.Sights.{Sight, Standing, request_in, server_parked, sight_over}
-use Rattle.px_chain.specs.Stages.{At, ServerSide, busy, connection, given_body, given_head, idle, next, request_body, response_body, response_head, unparked, upgraded}
+use Rattle.px_chain.specs.Stages.{At, busy, connection, given_body, given_head, idle, next, request_body, response_body, response_head, unparked, upgraded}
 use Rattle.px_chain.specs.Stages as flows
 use Rattle.px_chain.specs.Streams.{Since, client_closed, from_here, now_over}
 use Rattle.px_http.proofs.OrderLemmas.{is_counted as is_counted_there, is_counted_at, is_past, is_past_at, leaves_flows}
@@ -186,14 +186,14 @@ module _ (conv : ℕ) (client : Visitor) where
   same_follows : (place : Place) (standing : Standing) → Follows standing (http place standing)
   same_follows place standing = record { keeps = λ counted index before. before; leads = λ is. is }
 
-  tunnel_follows : (place : Place) (standing : Standing) (at : At) (connect : Option Connect) → standing.stage ≡ idle at →
-      Follows standing (or_stays (http place standing) (tunnel_for place at connect))
-  tunnel_follows place standing at None is = same_follows place standing
-  tunnel_follows place standing at (Some connect) is =
+  tunnel_follows : (place : Place) (standing : Standing) (used : ℕ) (at : At) (connect : Option Connect) → standing.stage ≡ idle at →
+      Follows standing (or_stays (http place standing) (tunnel_for place used at connect))
+  tunnel_follows place standing used at None is = same_follows place standing
+  tunnel_follows place standing used at (Some connect) is =
       record { keeps = λ counted index before. ap (λ s. is_past s index) (sym is) ∙ before; leads = λ counted. refl }
 
   -- the flow that becomes a WebSocket is the one that HTTP counts
-  upgrades_follow : (is : Bool) (standing : Standing) (at : At) (flow : Flow) (moment : ℕ) (side : ServerSide) (ends : TunnelEnds) →
+  upgrades_follow : (is : Bool) (standing : Standing) (at : At) (flow : Flow) (moment : ℕ) (side : ℕ) (ends : TunnelEnds) →
       standing.stage ≡ busy at flow (upgraded side) → Follows standing (upgrades is flow moment ends)
   upgrades_follow true standing at flow moment side ends same = record {
     keeps = λ counted index before.
@@ -205,7 +205,7 @@ module _ (conv : ℕ) (client : Visitor) where
 
   hands_follow : (place : Place) (standing : Standing) (stage : flows.Stage) (seen : Sight) → standing.stage ≡ stage →
       Follows standing (or_stays (http place standing) (hands_by place standing stage seen))
-  hands_follow place standing (idle at) seen is = tunnel_follows place standing at (connect_in place (request_in at seen)) is
+  hands_follow place standing (idle at) seen is = tunnel_follows place standing standing.used.client at (connect_in place (request_in seen)) is
   hands_follow place standing (busy at flow (request_body given)) seen is = same_follows place standing
   hands_follow place standing (busy at flow connection) seen is = same_follows place standing
   hands_follow place standing (busy at flow (response_head side how)) seen is = same_follows place standing
@@ -277,7 +277,7 @@ module _ (conv : ℕ) (client : Visitor) where
   }
 
   proxy_closes : (link : Link) (prefix : List (Timed Event)) → IsStill (shut_all (used_proxy link prefix) (closed_before link prefix))
-  proxy_closes link prefix = closes_still link.side.server (closed_of link.side.server (drop link.opened prefix)) (closed_before link prefix)
+  proxy_closes link prefix = closes_still link.server (closed_of link.server (drop link.opened prefix)) (closed_before link prefix)
 
   -- a tunnel that a proxy did not let through, and a flow, which ends
   refused_tunnel : (tunnel : Tunnel) (link : Link) (since : Since) (prefix : List (Timed Event)) →
@@ -414,23 +414,23 @@ module _ (conv : ℕ) (client : Visitor) where
   IsLed stage None = ⊤
   IsLed stage (Some from) = IsLedTo stage from
 
-  led_is_by : (stage : flows.Stage) → IsLed stage (led_by stage)
-  led_is_by (idle at) = tt
-  led_is_by (busy at flow (request_body given)) = tt
-  led_is_by (busy at flow connection) = record { at = at; stands = refl; from_there = refl }
-  led_is_by (busy at flow (response_head side how)) = tt
-  led_is_by (busy at flow (response_body side how)) = tt
-  led_is_by (busy at flow (upgraded side)) = tt
-  led_is_by (busy at flow given_head) = tt
-  led_is_by (busy at flow given_body) = tt
-  led_is_by (next at) = tt
-  led_is_by flows.over = tt
+  led_is_by : (used : ℕ) (stage : flows.Stage) → IsLed stage (led_by used stage)
+  led_is_by used (idle at) = tt
+  led_is_by used (busy at flow (request_body given)) = tt
+  led_is_by used (busy at flow connection) = record { at = at; stands = refl; from_there = refl }
+  led_is_by used (busy at flow (response_head side how)) = tt
+  led_is_by used (busy at flow (response_body side how)) = tt
+  led_is_by used (busy at flow (upgraded side)) = tt
+  led_is_by used (busy at flow given_head) = tt
+  led_is_by used (busy at flow given_body) = tt
+  led_is_by used (next at) = tt
+  led_is_by used flows.over = tt
 
-  led_is : (place : Place) (stage : flows.Stage) → IsLed stage (led_at place stage)
-  led_is places.Regular stage = tt
-  led_is (places.Upstream proxy) stage = tt
-  led_is (places.Fixed address side None) stage = tt
-  led_is (places.Fixed address side (Some proxy)) stage = led_is_by stage
+  led_is : (place : Place) (standing : Standing) → IsLed standing.stage (led_at place standing)
+  led_is places.Regular standing = tt
+  led_is (places.Upstream proxy) standing = tt
+  led_is (places.Fixed address side None) standing = tt
+  led_is (places.Fixed address side (Some proxy)) standing = led_is_by standing.used.client standing.stage
 
   -- there it owes nothing but the dial, and behind that the close of a parked side
   led_owes : (place : Place) (standing : Standing) (prefix : List (Timed Event)) (ask : Command) (from : Dialling) (is : IsLedTo standing.stage from) →
@@ -523,7 +523,7 @@ module _ (conv : ℕ) (client : Visitor) where
       Leaves stage ((stack_chain conv client).so_far stage prefix ++ ask ∷ ((stack_chain conv client).behind stage prefix ++ ((stack_chain conv client).turn stage prefix answer).owed))
       ((stack_chain conv client).turn stage prefix answer).stage
   turns (http place standing) prefix ask is asked answer =
-      http_turns (led_at place standing.stage) place standing prefix ask answer answer.value (led_is place standing.stage) is asked
+      http_turns (led_at place standing) place standing prefix ask answer answer.value (led_is place standing) is asked
   turns (connecting tunnel) prefix ask is asked answer =
       asked_dial tunnel ask (turn_dial conv client tunnel prefix answer.value answer.moment).owed _ asked (dial_turns tunnel prefix answer.value answer.moment)
   turns (reaching goal link since) prefix ask is asked answer = absurd (let no : NotYet ≡ Asks ask = asked in cc)
@@ -541,8 +541,8 @@ module _ (conv : ℕ) (client : Visitor) where
   raw_stops ends prefix =
       let closed : Bool = client_closed prefix in
       let shut : Bool = is_shut ends.link prefix in
-      let closes : List Command = closes_all ends.link.side.server shut closed in
-      found_nothing (closed || shut) (finished_flow ends.flow ++ closes) (finished_first ends.flow closes (closes_still ends.link.side.server shut closed))
+      let closes : List Command = closes_all ends.link.server shut closed in
+      found_nothing (closed || shut) (finished_flow ends.flow ++ closes) (finished_first ends.flow closes (closes_still ends.link.server shut closed))
 
   socket_stops : (ends : TunnelEnds) (flow : Flow) (frames : Frames) (prefix : List (Timed Event)) →
       LeavesNone is_behind (socket ends flow frames) (found ((stack_chain conv client).look (socket ends flow frames) prefix))
@@ -559,9 +559,9 @@ module _ (conv : ℕ) (client : Visitor) where
   stops (undecided tunnel link since) prefix is =
       let shut : Bool = is_shut link prefix in
       let closed : Bool = client_closed prefix in
-      let closes = closes_still link.side.server shut closed in
+      let closes = closes_still link.server shut closed in
       nothing_there (undecided tunnel link since) _
-      (found_nothing (closed || shut) (closes_all link.side.server shut closed) (record { ordered = closes.ordered; none = closes.none }))
+      (found_nothing (closed || shut) (closes_all link.server shut closed) (record { ordered = closes.ordered; none = closes.none }))
   stops (raw ends) prefix is =
       let nothing = raw_stops ends prefix in record { ordered = nothing.ordered; asks_none = λ index before. nothing.none index }
   stops (socket ends flow frames) prefix is = socket_stops ends flow frames prefix

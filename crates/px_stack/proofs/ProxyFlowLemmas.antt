@@ -29,10 +29,10 @@ use Rattle.px_exchange.specs.Flows.{response_of, with_answer, with_body, with_en
 use Rattle.px_exchange.specs.Places.{is_same_address, server_for}
 use Rattle.px_exchange.specs.Replies.{taken_at_response_body, taken_at_response_head}
 use Rattle.px_exchange.specs.Requests.{judged}
-use Rattle.px_chain.specs.Chain.{behind_flow, dial_leads, finish_by, goes_on_by, parked_for, pass, pass_body, sequence, side_behind, side_if, turn, turn_answer, turn_body, turn_head, turn_judged, turn_response, turn_returned, turn_taken_answer, turn_taken_body, turn_taken_given, turn_taken_head, turn_taken_returned, turn_taken_whole, used_more}
+use Rattle.px_chain.specs.Chain.{behind_flow, dial_leads, finish_by, goes_on_by, parked_for, pass, pass_body, sequence, side_if, turn, turn_answer, turn_body, turn_head, turn_judged, turn_response, turn_returned, turn_taken_answer, turn_taken_body, turn_taken_given, turn_taken_head, turn_taken_returned, turn_taken_whole}
 use Rattle.px_chain.specs.Sights.{Sight, answers_in, request_in, server_in, server_parked}
 use Rattle.px_chain.specs.Silent.{connects}
-use Rattle.px_chain.specs.Stages.{At, Parked, ServerSide, Stage, busy, connection, given_body, given_head, idle, next, over, request_body, response_body, response_head, unparked, upgraded}
+use Rattle.px_chain.specs.Stages.{At, Parked, Stage, busy, connection, given_body, given_head, idle, next, over, request_body, response_body, response_head, unparked, upgraded}
 use Rattle.px_chain.proofs.CountedLemmas.{IsSilent}
 use Rattle.px_chain.proofs.SilentLemmas.{IsBetween, IsBeyond, ServersBelow, beyond_by, dialled, early_silent, fault_silent, parked_at, turn_leads}
 use Rattle.px_stack.proofs.AnswerLemmas.{IsWithoutHead}
@@ -56,20 +56,20 @@ module _ (server : ℕ) where
   send_silent number text apart = ap (λ same. bytes_in (cond same (map byte text) [] ++ [])) (apart_by number (number == server) refl apart)
 
   -- a side that a flow goes to, and one that is parked, is another's
-  abbrev SideApart : Option ServerSide → Type 0
+  abbrev SideApart : Option ℕ → Type 0
   SideApart None = ⊤
-  SideApart (Some side) = side.server ≢ server
+  SideApart (Some side) = side ≢ server
 
   abbrev pub ParkedApart : Option Parked → Type 0
   ParkedApart None = ⊤
-  ParkedApart (Some parked) = parked.side.server ≢ server
+  ParkedApart (Some parked) = parked.server ≢ server
 
   -- Where a response's head has come the side is another's, and where a side is parked that one is.
   abbrev pub FlowApart : Stage → Type 0
   FlowApart (idle at) = ParkedApart at.parked
   FlowApart (busy at flow (request_body given)) = ParkedApart at.parked
-  FlowApart (busy at flow (response_body side how)) = side.server ≢ server
-  FlowApart (busy at flow (upgraded side)) = side.server ≢ server
+  FlowApart (busy at flow (response_body side how)) = side ≢ server
+  FlowApart (busy at flow (upgraded side)) = side ≢ server
   FlowApart (busy at flow given_head) = ParkedApart at.parked
   FlowApart (busy at flow given_body) = ParkedApart at.parked
   FlowApart (next at) = ParkedApart at.parked
@@ -77,7 +77,7 @@ module _ (server : ℕ) where
 
   -- no response's head stands in what is seen of the server
   abbrev pub SeesNothing : Stage → Sight → Type 0
-  SeesNothing (busy at flow (response_head side how)) seen = side.server ≡ server → IsWithoutHead (answers_in flow.request side seen).final
+  SeesNothing (busy at flow (response_head side how)) seen = side ≡ server → IsWithoutHead (answers_in flow.request seen).final
   SeesNothing stage seen = ⊤
 
   -- this answer does not connect a server at this stage
@@ -107,13 +107,13 @@ module _ (server : ℕ) where
   item_apart terms at (bad_head fault) seen answer apart = tt
   item_apart terms at (bad_body fault head body) seen answer apart = judged_apart terms at head (judged terms.place head) seen answer apart
 
-  taken_answer_apart : (at : At) (flow : Flow) (side : ServerSide) (taken : Taken Response) (moment : ℕ) (used : Used) (closed : Bool) → side.server ≢ server →
+  taken_answer_apart : (at : At) (flow : Flow) (side : ℕ) (taken : Taken Response) (moment : ℕ) (used : Used) (closed : Bool) → side ≢ server →
       FlowApart (turn_taken_answer at flow side taken moment used closed).stage
   taken_answer_apart at flow side (GoesOn response) moment used closed apart = apart
   taken_answer_apart at flow side (Responds response) moment used closed apart = tt
   taken_answer_apart at flow side Kills moment used closed apart = tt
 
-  answer_apart : (at : At) (flow : Flow) (side : ServerSide) (item : Item ReadResponse) (seen : Sight) (answer : Timed Reply) → (side.server ≡ server → IsWithoutHead item) →
+  answer_apart : (at : At) (flow : Flow) (side : ℕ) (item : Item ReadResponse) (seen : Sight) (answer : Timed Reply) → (side ≡ server → IsWithoutHead item) →
       FlowApart (turn_answer at flow side item seen answer).stage
   answer_apart at flow side missing seen answer without = tt
   answer_apart at flow side (part head body) seen answer without = taken_answer_apart at (with_answer flow (response_of head) seen.now) side _ answer.moment _ _ without
@@ -130,28 +130,28 @@ module _ (server : ℕ) where
   response_apart None takes goes leads = tt
   response_apart (Some response) takes goes leads = leads (takes response)
 
-  finish_apart : (switches : Bool) (at : At) (flow : Flow) (response : Response) (side : ServerSide) (used : Used) (closed : Bool) → side.server ≢ server →
+  finish_apart : (switches : Bool) (at : At) (flow : Flow) (response : Response) (side : ℕ) (used : Used) (closed : Bool) → side ≢ server →
       FlowApart (finish_by switches at flow response side used closed).stage
   finish_apart true at flow response side used closed apart = apart
   finish_apart false at flow response side used closed apart = behind_apart (connection_goes_on at.flow flow.request response) (unparked at) tt
 
-  taken_whole_apart : (at : At) (flow : Flow) (side : ServerSide) (taken : Taken Response) (moment : ℕ) (used : Used) (closed : Bool) → side.server ≢ server →
+  taken_whole_apart : (at : At) (flow : Flow) (side : ℕ) (taken : Taken Response) (moment : ℕ) (used : Used) (closed : Bool) → side ≢ server →
       FlowApart (turn_taken_whole at flow side taken moment used closed).stage
   taken_whole_apart at flow side (GoesOn response) moment used closed apart = finish_apart (response.status == 101) at flow response side used closed apart
   taken_whole_apart at flow side (Responds response) moment used closed apart = tt
   taken_whole_apart at flow side Kills moment used closed apart = tt
 
-  returned_apart : (at : At) (flow : Flow) (side : ServerSide) (interim : ℕ) (item : Item ReadResponse) (seen : Sight) (answer : Timed Reply) → side.server ≢ server →
-      FlowApart (turn_returned at flow side interim item seen answer).stage
-  returned_apart at flow side interim missing seen answer apart = tt
-  returned_apart at flow side interim (part head body) seen answer apart = tt
-  returned_apart at flow side interim (complete head body trailers size) seen answer apart =
+  returned_apart : (at : At) (flow : Flow) (side : ℕ) (item : Item ReadResponse) (seen : Sight) (answer : Timed Reply) → side ≢ server →
+      FlowApart (turn_returned at flow side item seen answer).stage
+  returned_apart at flow side missing seen answer apart = tt
+  returned_apart at flow side (part head body) seen answer apart = tt
+  returned_apart at flow side (complete head body trailers size) seen answer apart =
       let whole : Flow = with_returned flow body.content trailers seen.now in
       response_apart whole.response (λ response. taken_at_response_body response answer.value)
-      (λ taken. turn_taken_whole at whole (side_behind side (interim + size)) taken answer.moment (server_in side seen) seen.closed)
-      (λ taken. taken_whole_apart at whole (side_behind side (interim + size)) taken answer.moment (server_in side seen) seen.closed apart)
-  returned_apart at flow side interim (bad_head fault) seen answer apart = tt
-  returned_apart at flow side interim (bad_body fault head body) seen answer apart = tt
+      (λ taken. turn_taken_whole at whole side taken answer.moment (server_in side seen) seen.closed)
+      (λ taken. taken_whole_apart at whole side taken answer.moment (server_in side seen) seen.closed apart)
+  returned_apart at flow side (bad_head fault) seen answer apart = tt
+  returned_apart at flow side (bad_body fault head body) seen answer apart = tt
 
   taken_returned_apart : (at : At) (flow : Flow) (taken : Taken Response) (moment : ℕ) (parked : Used) (closed : Bool) → ParkedApart at.parked →
       FlowApart (turn_taken_returned at flow taken moment parked closed).stage
@@ -167,19 +167,19 @@ module _ (server : ℕ) where
 
   -- ---- a request that is whole
 
-  if_apart : (to_it : Bool) (side : ServerSide) → side.server ≢ server → SideApart (side_if to_it side)
+  if_apart : (to_it : Bool) (side : ℕ) → side ≢ server → SideApart (side_if to_it side)
   if_apart true side apart = apart
   if_apart false side apart = tt
 
   for_apart : (place : Place) (request : Request) (parked : Option Parked) → ParkedApart parked → SideApart (parked_for place request parked)
   for_apart place request None apart = tt
-  for_apart place request (Some parked) apart = if_apart (is_same_address parked.address (server_for place request)) parked.side apart
+  for_apart place request (Some parked) apart = if_apart (is_same_address parked.address (server_for place request)) parked.server apart
 
-  goes_silent : (side : Option ServerSide) (place : Place) (at : At) (flow : Flow) → SideApart side → IsSilent server (goes_on_by side place at flow).owed
+  goes_silent : (side : Option ℕ) (place : Place) (at : At) (flow : Flow) → SideApart side → IsSilent server (goes_on_by side place at flow).owed
   goes_silent None place at flow apart = refl
-  goes_silent (Some side) place at flow apart = send_silent side.server _ apart
+  goes_silent (Some side) place at flow apart = send_silent side _ apart
 
-  goes_apart : (side : Option ServerSide) (place : Place) (at : At) (flow : Flow) → FlowApart (goes_on_by side place at flow).stage
+  goes_apart : (side : Option ℕ) (place : Place) (at : At) (flow : Flow) → FlowApart (goes_on_by side place at flow).stage
   goes_apart None place at flow = tt
   goes_apart (Some side) place at flow = tt
 
@@ -201,7 +201,7 @@ module _ (server : ℕ) where
   body_silent place at flow missing seen answer apart = refl
   body_silent place at flow (part head body) seen answer apart = refl
   body_silent place at flow (complete head body trailers used) seen answer apart =
-      taken_body_silent place (used_more at used) (with_body flow body.content trailers seen.now) _ answer.moment seen apart
+      taken_body_silent place at (with_body flow body.content trailers seen.now) _ answer.moment seen apart
   body_silent place at flow (bad_head fault) seen answer apart = refl
   body_silent place at flow (bad_body fault head body) seen answer apart = refl
 
@@ -210,7 +210,7 @@ module _ (server : ℕ) where
   body_apart place at flow missing seen answer apart = tt
   body_apart place at flow (part head body) seen answer apart = tt
   body_apart place at flow (complete head body trailers used) seen answer apart =
-      taken_body_apart place (used_more at used) (with_body flow body.content trailers seen.now) _ answer.moment seen apart
+      taken_body_apart place at (with_body flow body.content trailers seen.now) _ answer.moment seen apart
   body_apart place at flow (bad_head fault) seen answer apart = tt
   body_apart place at flow (bad_body fault head body) seen answer apart = tt
 
@@ -243,7 +243,7 @@ module _ (server : ℕ) where
   pub turn_silent : (terms : Terms) (stage : Stage) (seen : Sight) (answer : Timed Reply) → ServersBelow stage → FlowApart stage → ConnectsNone stage answer.value →
       IsSilent server (turn terms stage seen answer).owed
   turn_silent terms (idle at) seen answer below apart none = led terms (idle at) seen answer below tt
-  turn_silent terms (busy at flow (request_body given)) seen answer below apart none = body_silent terms.place at flow (request_in at seen) seen answer apart
+  turn_silent terms (busy at flow (request_body given)) seen answer below apart none = body_silent terms.place at flow (request_in seen) seen answer apart
   turn_silent terms (busy at flow connection) seen answer below apart none = dial_silent terms.place at flow answer.value answer.moment _ none
   turn_silent terms (busy at flow (response_head side how)) seen answer below apart none = led terms (busy at flow (response_head side how)) seen answer below tt
   turn_silent terms (busy at flow (response_body side how)) seen answer below apart none = led terms (busy at flow (response_body side how)) seen answer below tt
@@ -254,12 +254,12 @@ module _ (server : ℕ) where
   turn_silent terms over seen answer below apart none = refl
 
   pub turn_apart : (terms : Terms) (stage : Stage) (seen : Sight) (answer : Timed Reply) → FlowApart stage → SeesNothing stage seen → FlowApart (turn terms stage seen answer).stage
-  turn_apart terms (idle at) seen answer apart sees = item_apart terms at (request_in at seen) seen answer apart
-  turn_apart terms (busy at flow (request_body given)) seen answer apart sees = body_apart terms.place at flow (request_in at seen) seen answer apart
+  turn_apart terms (idle at) seen answer apart sees = item_apart terms at (request_in seen) seen answer apart
+  turn_apart terms (busy at flow (request_body given)) seen answer apart sees = body_apart terms.place at flow (request_in seen) seen answer apart
   turn_apart terms (busy at flow connection) seen answer apart sees = dial_apart terms.place at flow answer.value
-  turn_apart terms (busy at flow (response_head side how)) seen answer apart sees = answer_apart at flow side (answers_in flow.request side seen).final seen answer sees
+  turn_apart terms (busy at flow (response_head side how)) seen answer apart sees = answer_apart at flow side (answers_in flow.request seen).final seen answer sees
   turn_apart terms (busy at flow (response_body side how)) seen answer apart sees =
-      returned_apart at flow side (answers_in flow.request side seen).used (answers_in flow.request side seen).final seen answer apart
+      returned_apart at flow side (answers_in flow.request seen).final seen answer apart
   turn_apart terms (busy at flow (upgraded side)) seen answer apart sees = tt
   turn_apart terms (busy at flow given_head) seen answer apart sees =
       let asked : Flow = with_start flow seen.now in
@@ -291,7 +291,7 @@ module _ (server : ℕ) where
 
   pub pass_apart : (stage : Stage) (seen : Sight) → FlowApart stage → FlowApart (pass stage seen)
   pass_apart (idle at) seen apart = apart
-  pass_apart (busy at flow (request_body given)) seen apart = passed_apart at flow given (request_in at seen) seen.now apart
+  pass_apart (busy at flow (request_body given)) seen apart = passed_apart at flow given (request_in seen) seen.now apart
   pass_apart (busy at flow connection) seen apart = tt
   pass_apart (busy at flow (response_head side how)) seen apart = tt
   pass_apart (busy at flow (response_body side how)) seen apart = apart
@@ -347,7 +347,7 @@ module _ (server : ℕ) where
 
     pub pass_untold : (stage : Stage) (seen : Sight) → FlowUntold text stage → FlowUntold text (pass stage seen)
     pass_untold (idle at) seen untold = untold
-    pass_untold (busy at flow (request_body given)) seen untold = passed_untold at flow given (request_in at seen) seen.now untold
+    pass_untold (busy at flow (request_body given)) seen untold = passed_untold at flow given (request_in seen) seen.now untold
     pass_untold (busy at flow connection) seen untold = untold
     pass_untold (busy at flow (response_head side how)) seen untold = untold
     pass_untold (busy at flow (response_body side how)) seen untold = untold

@@ -30,9 +30,9 @@ use Rattle.px_exchange.specs.Endings.{ends_by_fault, refuses}
 use Rattle.px_exchange.specs.Places.{address_of, terms_of}
 use Rattle.px_exchange.specs.Requests.{is_head}
 use Rattle.px_exchange.specs.Texts.{connected_text, onward_text}
-use Rattle.px_chain.specs.Chain.{Connect, connect_in, dial_leads, new_side, pass as pass_of, reached, sequence, stands, turn as turn_of}
+use Rattle.px_chain.specs.Chain.{Connect, connect_in, dial_leads, pass as pass_of, reached, sequence, stands, turn as turn_of}
 use Rattle.px_chain.specs.Sights.{Sight, Standing, bytes_over, request_in, sight_over}
-use Rattle.px_chain.specs.Stages.{At, ServerSide, all_sent, busy, connection, given_body, given_head, idle, next, request_body, response_body, response_head, side_of, unparked, upgraded}
+use Rattle.px_chain.specs.Stages.{At, all_sent, busy, connection, given_body, given_head, idle, next, request_body, response_body, response_head, side_of, unparked, upgraded}
 use Rattle.px_chain.specs.Stages as flows
 use Rattle.px_event.specs.Sides.{piece_of}
 use Rattle.px_chain.specs.Streams.{Since, bytes_of, client_closed, from_here, now_over}
@@ -90,9 +90,9 @@ module _ (server : ℕ) where
   IsApart (http place standing) = IsThrough place × FlowApart server standing.stage
   IsApart (connecting tunnel) = IsVia tunnel.proxy
   IsApart (reaching goal link since) = GoalApart goal
-  IsApart (undecided tunnel link since) = IsVia tunnel.proxy × (link.side.server ≢ server)
-  IsApart (raw ends) = ends.link.side.server ≢ server
-  IsApart (socket ends flow frames) = ends.link.side.server ≢ server
+  IsApart (undecided tunnel link since) = IsVia tunnel.proxy × (link.server ≢ server)
+  IsApart (raw ends) = ends.link.server ≢ server
+  IsApart (socket ends flow frames) = ends.link.server ≢ server
   IsApart over = ⊤
 
   -- nothing was sent to the server before it was dialled
@@ -151,27 +151,27 @@ module _ (server : ℕ) where
 
   module _ (conv : ℕ) (client : Visitor) (text : List ℕ) (one : IsOneRequest text) where
     -- where HTTP hands over
-    tunnel_stays : (place : Place) (standing : Standing) (at : At) (connect : Option Connect) → Stays text (http place standing) → IsVia (proxy_at place) → Untold server text at.dials →
-        Stays text (or_stays (http place standing) (tunnel_for place at connect))
-    tunnel_stays place standing at None is via untold = is
-    tunnel_stays place standing at (Some connect) is via untold = record { apart = via; untold = untold }
+    tunnel_stays : (place : Place) (standing : Standing) (used : ℕ) (at : At) (connect : Option Connect) → Stays text (http place standing) → IsVia (proxy_at place) → Untold server text at.dials →
+        Stays text (or_stays (http place standing) (tunnel_for place used at connect))
+    tunnel_stays place standing used at None is via untold = is
+    tunnel_stays place standing used at (Some connect) is via untold = record { apart = via; untold = untold }
 
-    connect_stays : (place : Place) (standing : Standing) (at : At) (item : Item ReadRequest) → Stays text (http place standing) → Untold server text at.dials →
-        Stays text (or_stays (http place standing) (tunnel_for place at (connect_in place item)))
-    connect_stays places.Regular standing at item is untold = absurd is.apart.0
-    connect_stays (places.Upstream proxy) standing at item is untold = tunnel_stays (places.Upstream proxy) standing at (connect_in (places.Upstream proxy) item) is tt untold
-    connect_stays (places.Fixed address side inside) standing at item is untold =
+    connect_stays : (place : Place) (standing : Standing) (used : ℕ) (at : At) (item : Item ReadRequest) → Stays text (http place standing) → Untold server text at.dials →
+        Stays text (or_stays (http place standing) (tunnel_for place used at (connect_in place item)))
+    connect_stays places.Regular standing used at item is untold = absurd is.apart.0
+    connect_stays (places.Upstream proxy) standing used at item is untold = tunnel_stays (places.Upstream proxy) standing used at (connect_in (places.Upstream proxy) item) is tt untold
+    connect_stays (places.Fixed address side inside) standing used at item is untold =
         let place : Place = places.Fixed address side inside in
-        let P : Option Connect → Type 0 = λ c. Stays text (or_stays (http place standing) (tunnel_for place at c)) in
+        let P : Option Connect → Type 0 = λ c. Stays text (or_stays (http place standing) (tunnel_for place used at c)) in
         subst P (sym (never_connects address side inside item)) is
 
-    upgrades_stay : (is : Bool) (flow : Flow) (moment : ℕ) (ends : TunnelEnds) → ends.link.side.server ≢ server → Stays text (upgrades is flow moment ends)
+    upgrades_stay : (is : Bool) (flow : Flow) (moment : ℕ) (ends : TunnelEnds) → ends.link.server ≢ server → Stays text (upgrades is flow moment ends)
     upgrades_stay true flow moment ends apart = record { apart = apart; untold = tt }
     upgrades_stay false flow moment ends apart = record { apart = apart; untold = tt }
 
     hands_stay : (place : Place) (standing : Standing) (stage : flows.Stage) (seen : Sight) → Stays text (http place standing) → FlowApart server stage → FlowUntold server text stage →
         Stays text (or_stays (http place standing) (hands_by place standing stage seen))
-    hands_stay place standing (idle at) seen is apart untold = connect_stays place standing at (request_in at seen) is untold
+    hands_stay place standing (idle at) seen is apart untold = connect_stays place standing standing.used.client at (request_in seen) is untold
     hands_stay place standing (busy at flow (request_body given)) seen is apart untold = is
     hands_stay place standing (busy at flow connection) seen is apart untold = is
     hands_stay place standing (busy at flow (response_head side how)) seen is apart untold = is
@@ -183,12 +183,12 @@ module _ (server : ℕ) where
     hands_stay place standing flows.over seen is apart untold = is
 
     -- a WebSocket sends to its own server, which has answered
-    socket_goes : (ends : TunnelEnds) (flow : Flow) (on : Turn Frames Command) → ends.link.side.server ≢ server → Says (socket_terms client.key ends flow) on →
+    socket_goes : (ends : TunnelEnds) (flow : Flow) (on : Turn Frames Command) → ends.link.server ≢ server → Says (socket_terms client.key ends flow) on →
         Goes text (socket_turn ends flow on)
     socket_goes ends flow on apart said =
         quietly text on.owed (socket ends flow on.stage) one (said_silent server (socket_terms client.key ends flow) on.stage apart on.owed said) (record { apart = apart; untold = tt })
 
-    socket_passes : (ends : TunnelEnds) (flow : Flow) (frames : Frames) (prefix : List (Timed Event)) → ends.link.side.server ≢ server →
+    socket_passes : (ends : TunnelEnds) (flow : Flow) (frames : Frames) (prefix : List (Timed Event)) → ends.link.server ≢ server →
         Goes text (pass_socket conv client ends flow frames prefix)
     socket_passes ends flow frames prefix apart = socket_goes ends flow _ apart (pass_says (socket_terms client.key ends flow) (socket_sight ends prefix) frames)
 
@@ -223,17 +223,17 @@ module _ (server : ℕ) where
 
     -- ---- a proxy that has answered is another one
 
-    is_another : (link : Link) (prefix : List (Timed Event)) (used : ℕ) → DecidesNothing (said_in server prefix) → answer_of link prefix ≡ granted used → link.side.server ≢ server
+    is_another : (link : Link) (prefix : List (Timed Event)) (used : ℕ) → DecidesNothing (said_in server prefix) → answer_of link prefix ≡ granted used → link.server ≢ server
     is_another link prefix used none grants same =
         let P : ℕ → Type 0 = λ n. DecidesNothing (text_of n (drop link.opened prefix)) in
-        grants_not (text_of link.side.server (drop link.opened prefix)) (closed_of link.side.server (drop link.opened prefix)) used
+        grants_not (text_of link.server (drop link.opened prefix)) (closed_of link.server (drop link.opened prefix)) used
         (subst P (sym same) (text_decides server link.opened prefix none)) grants
 
-    way_apart : (empty : Bool) (link : Link) (used come : ℕ) → link.side.server ≢ server → (way_by empty link used come).side.server ≢ server
+    way_apart : (empty : Bool) (link : Link) (used come : ℕ) → link.server ≢ server → (way_by empty link used come).server ≢ server
     way_apart true link used come apart = apart
     way_apart false link used come apart = apart
 
-    opened_goes : (tunnel : Tunnel) (link : Link) (since : Since) (prefix : List (Timed Event)) (used : ℕ) → link.side.server ≢ server → Stays text (reaching (a_tunnel tunnel) link since) →
+    opened_goes : (tunnel : Tunnel) (link : Link) (since : Since) (prefix : List (Timed Event)) (used : ℕ) → link.server ≢ server → Stays text (reaching (a_tunnel tunnel) link since) →
         Goes text (pass_reached conv client (a_tunnel tunnel) link since prefix (granted used))
     opened_goes tunnel link since prefix used apart stays =
         quietly text (commands.Send Client connected_text ∷ []) _ one refl
@@ -245,10 +245,10 @@ module _ (server : ℕ) where
     reached_goes goal link since prefix awaited none is stays = quietly text [] (reaching goal link since) one refl stays
     reached_goes (a_tunnel tunnel) link since prefix (granted used) none is stays = opened_goes tunnel link since prefix used (is_another link prefix used none is) stays
     reached_goes (a_flow place from) link since prefix (granted used) none is stays =
-        quietly text _ _ one (send_silent server link.side.server _ (is_another link prefix used none is)) (record { apart = (stays.apart, tt); untold = stays.untold })
+        quietly text _ _ one (send_silent server link.server _ (is_another link prefix used none is)) (record { apart = (stays.apart, tt); untold = stays.untold })
     reached_goes (a_tunnel tunnel) link since prefix refused none is stays =
         quietly text (refuses UpstreamRefused false (used_proxy link prefix) (closed_before link prefix)) over one
-        (closes_silent server link.side.server (closed_of link.side.server (drop link.opened prefix)) (closed_before link prefix)) (record { apart = tt; untold = tt })
+        (closes_silent server link.server (closed_of link.server (drop link.opened prefix)) (closed_before link prefix)) (record { apart = tt; untold = tt })
     reached_goes (a_flow place from) link since prefix refused none is stays =
         quietly text (ends_by_fault from.flow UpstreamRefused (now_over since prefix) (used_proxy link prefix) (closed_before link prefix)) over one
         (fault_silent server from.flow UpstreamRefused (now_over since prefix) (used_proxy link prefix) (closed_before link prefix)) (record { apart = tt; untold = tt })
@@ -272,13 +272,13 @@ module _ (server : ℕ) where
     looks (http place standing) prefix = looks_silent server (terms_of conv client.address place) standing.stage (sight_over standing prefix)
     looks (connecting tunnel) prefix = refl
     looks (reaching goal link since) prefix = refl
-    looks (undecided tunnel link since) prefix = opening_silent (client_closed prefix) (is_shut link prefix) link.side.server
+    looks (undecided tunnel link since) prefix = opening_silent (client_closed prefix) (is_shut link prefix) link.server
     looks (raw ends) prefix =
         let closed : Bool = client_closed prefix in
         let shut : Bool = is_shut ends.link prefix in
-        let closes : List Command = closes_all ends.link.side.server shut closed in
+        let closes : List Command = closes_all ends.link.server shut closed in
         found_silent server (closed || shut) (finished_flow ends.flow ++ closes)
-        (silent_both server (finished_flow ends.flow) closes (finished_silent server ends.flow) (closes_silent server ends.link.side.server shut closed))
+        (silent_both server (finished_flow ends.flow) closes (finished_silent server ends.flow) (closes_silent server ends.link.server shut closed))
     looks (socket ends flow frames) prefix = frames_silent server (socket_terms client.key ends flow) frames
     looks over prefix = refl
 
@@ -297,8 +297,8 @@ module _ (server : ℕ) where
     waits (reaching goal link since) prefix is = refl
     waits (undecided tunnel link since) prefix is = refl
     waits (raw ends) prefix is =
-        silent_both server (commands.Send (Server ends.link.side.server) (text_up ends prefix) ∷ []) (commands.Send Client (text_down ends prefix) ∷ [])
-        (send_silent server ends.link.side.server (text_up ends prefix) is.apart) refl
+        silent_both server (commands.Send (Server ends.link.server) (text_up ends prefix) ∷ []) (commands.Send Client (text_down ends prefix) ∷ [])
+        (send_silent server ends.link.server (text_up ends prefix) is.apart) refl
     waits (socket ends flow frames) prefix is = refl
     waits over prefix is = refl
 
@@ -336,10 +336,10 @@ module _ (server : ℕ) where
     sees_nothing standing prefix (busy at flow (response_head side how)) none is = λ same.
         let seen : Sight = sight_over standing prefix in
         let P : ℕ → Type 0 = λ n. DecidesNothing (bytes_of (Server n) (drop standing.opened prefix)) in
-        let heard : DecidesNothing (bytes_of (Server side.server) (drop standing.opened prefix)) = subst P (sym same) (bytes_decide server standing.opened prefix none) in
-        let Q : Option ServerSide → Type 0 = λ s. DecidesNothing (bytes_over s standing.opened prefix) in
-        let here : DecidesNothing seen.server = subst Q (sym (ap side_of is)) heard in
-        answers_without (is_head flow.request.method) seen.shut (drop side.used seen.server) (nothing_within side.used seen.server here)
+        let heard : DecidesNothing (bytes_of (Server side) (drop standing.opened prefix)) = subst P (sym same) (bytes_decide server standing.opened prefix none) in
+        let Q : Option ℕ → Type 0 = λ s. DecidesNothing (bytes_over s standing.opened prefix) in
+        let here : DecidesNothing (bytes_over (side_of standing.stage) standing.opened prefix) = subst Q (sym (ap side_of is)) heard in
+        answers_without (is_head flow.request.method) seen.shut seen.server (nothing_within standing.used.server (bytes_over (side_of standing.stage) standing.opened prefix) here)
     sees_nothing standing prefix (busy at flow (response_body side how)) none is = tt
     sees_nothing standing prefix (busy at flow (upgraded side)) none is = tt
     sees_nothing standing prefix (busy at flow given_head) none is = tt
@@ -382,7 +382,7 @@ module _ (server : ℕ) where
           let terms = terms_of conv client.address place in
           let seen : Sight = sight_over standing prefix in
           let request : List ℕ = onward_text Absolute flow.request in
-          let to : flows.Stage = busy (record at { dials = at.dials + 1; parked = None }) (reached place flow) (response_head (new_side at.dials) all_sent) in
+          let to : flows.Stage = busy (record at { dials = at.dials + 1; parked = None }) (reached place flow) (response_head at.dials all_sent) in
           let asked : Turn flows.Stage Command = record { owed = commands.Send (Server at.dials) request ∷ []; stage = to } in
           let brings : turn_of terms standing.stage seen answer ≡ asked =
           ap (λ s. turn_of terms s seen answer) is
@@ -417,19 +417,19 @@ module _ (server : ℕ) where
       -- ---- a request inside a tunnel
 
       led_goes : (place : Place) (at : At) (flow : Flow) (value : Reply) → standing.stage ≡ busy at flow connection → answer.value ≡ value → Stays text (http place standing) →
-          Goes text (turn_http conv client (led_by (busy at flow connection)) place standing prefix answer value)
+          Goes text (turn_http conv client (led_by standing.used.client (busy at flow connection)) place standing prefix answer value)
       led_goes place at flow (reply.Go given stream) is same stays = flows_go place standing prefix answer none below (none_by standing answer _ _ is same tt) stays
       led_goes place at flow (reply.Respond response) is same stays = flows_go place standing prefix answer none below (none_by standing answer _ _ is same tt) stays
       led_goes place at flow reply.Kill is same stays = flows_go place standing prefix answer none below (none_by standing answer _ _ is same tt) stays
       led_goes place at flow reply.Discard is same stays = flows_go place standing prefix answer none below (none_by standing answer _ _ is same tt) stays
       led_goes place at flow reply.Dialled is same stays =
           let U : flows.Stage → Type 0 = λ s. FlowUntold server text s in
-          let from : Dialling = record { at = unparked at; flow = flow } in
+          let from : Dialling = record { at = unparked at; used = standing.used.client; flow = flow } in
           proxy_goes (a_flow place from) (address_of flow.request) at.dials prefix answer.moment stays.apart.0 (subst U is stays.untold) (λ longer further. further)
       led_goes place at flow (reply.Refused fault) is same stays = flows_go place standing prefix answer none below (none_by standing answer _ _ is same tt) stays
 
       inside_goes : (place : Place) (stage : flows.Stage) (value : Reply) → standing.stage ≡ stage → answer.value ≡ value → Stays text (http place standing) →
-          Goes text (turn_http conv client (led_by stage) place standing prefix answer value)
+          Goes text (turn_http conv client (led_by standing.used.client stage) place standing prefix answer value)
       inside_goes place (busy at flow connection) value is same stays = led_goes place at flow value is same stays
       inside_goes place (idle at) value is same stays = flows_go place standing prefix answer none below (none_by standing answer (idle at) value is same tt) stays
       inside_goes place (busy at flow (request_body given)) value is same stays = flows_go place standing prefix answer none below (none_by standing answer (busy at flow (request_body given)) value is same tt) stays

@@ -10,7 +10,6 @@ use Rattle.px_event.specs.View.{seen_of}
 use Rattle.px_event.specs.Laws.{owed_here}
 use Rattle.px_event.proofs.Steps.{Takes, onward}
 use Rattle.px_event.specs.Sides.{closes, piece_of}
-use Rattle.px_chain.specs.Chain.{new_side}
 use Rattle.px_chain.specs.Streams.{Since, client_closed}
 use Rattle.px_chain.proofs.FrontLaws.{now_more}
 use Rattle.px_tunnel.specs.declared.upstream.UpstreamTunnel.{UpstreamTunnel}
@@ -63,22 +62,22 @@ new_text server prefix = ap (text_of server) (new_behind prefix)
 pub new_unshut : (server : ℕ) (prefix : List (Timed Event)) → closed_of server (drop (length prefix) prefix) ≡ false
 new_unshut server prefix = ap (closed_of server) (new_behind prefix)
 
-pub new_answer : (server : ℕ) (prefix : List (Timed Event)) → answer_of (record { side = new_side server; opened = length prefix }) prefix ≡ awaited
+pub new_answer : (server : ℕ) (prefix : List (Timed Event)) → answer_of (record { server = server; used = 0; opened = length prefix }) prefix ≡ awaited
 new_answer server prefix = ap (λ l. granting (text_of server l) (closed_of server l)) (new_behind prefix)
 
-pub new_before : (server : ℕ) (prefix : List (Timed Event)) → closed_before (record { side = new_side server; opened = length prefix }) prefix ≡ client_closed prefix
+pub new_before : (server : ℕ) (prefix : List (Timed Event)) → closed_before (record { server = server; used = 0; opened = length prefix }) prefix ≡ client_closed prefix
 new_before server prefix = ap client_closed (take_all (length prefix) prefix (omega arith))
 
 -- ---- where it is asked
 
 -- this is kept there
 pub record IsAnswered (conv : ℕ) (client : Visitor) (goal : Goal) (link : Link) (since : Since) (prefix : List (Timed Event)) (kept : Reaching) : Type 0 where
-  pub same : kept.server ≡ link.side.server
+  pub same : kept.server ≡ link.server
   pub before : kept.closed_before ≡ closed_before link prefix
   pub opened : link.opened ≤ length prefix
   pub come : since.events ≤ length prefix
-  pub heard : HasHeard kept.asked (text_of link.side.server (drop link.opened prefix))
-  pub unshut : closed_of link.side.server (drop link.opened prefix) ≡ false
+  pub heard : HasHeard kept.asked (text_of link.server (drop link.opened prefix))
+  pub unshut : closed_of link.server (drop link.opened prefix) ≡ false
   pub waiting : IsGoal conv client goal link prefix kept.goal
 
 same_kept : (a b : Reaching) → children.Reaching a ≡ children.Reaching b → b ≡ a
@@ -132,16 +131,16 @@ module _ (conv : ℕ) (client : Visitor) (goal : Goal) (link : Link) (since : Si
   longer = prefix ++ now ∷ []
 
   abbrev text : List ℕ
-  text = text_of link.side.server (drop link.opened prefix)
+  text = text_of link.server (drop link.opened prefix)
 
   abbrev piece : List ℕ
-  piece = piece_of (Server link.side.server) event
+  piece = piece_of (Server link.server) event
 
   abbrev shut : Bool
-  shut = closes (Server link.side.server) event
+  shut = closes (Server link.server) event
 
   closing : shut ≡ true → piece ≡ []
-  closing is = closing_piece link.side.server event is
+  closing is = closing_piece link.server event is
 
   may_go_on : (after : KeptGoal) → IsGoal conv client goal link longer after → MayGoOn conv client goal link since longer kept.server after moment
   may_go_on after waiting =
@@ -150,7 +149,7 @@ module _ (conv : ℕ) (client : Visitor) (goal : Goal) (link : Link) (since : Si
       let come = at.come in
       record { same = at.same; opened = omega arith; come = omega arith; waiting = waiting; now = sym (now_more since prefix now at.come) }
 
-  there_says : (after : UpstreamTunnel) (says : ProxySays) → HearsProxy kept.server kept.asked after event says → HearsThere link.side.server after text event says
+  there_says : (after : UpstreamTunnel) (says : ProxySays) → HearsProxy kept.server kept.asked after event says → HearsThere link.server after text event says
   there_says after says hears = let P : ℕ → Type 0 = λ n. HearsThere n after text event says in subst P at.same (hears text at.heard)
 
   let_through : (after : UpstreamTunnel) (rest : List ℕ) → HearsProxy kept.server kept.asked after event told.Yes → rest ≡ rest_of after → IsLetThrough link longer rest
@@ -250,7 +249,7 @@ module _ (conv : ℕ) (client : Visitor) (kept : Reaching) (somewhere : IsSomewh
   heard_somewhere =
       let (stage, prefix, there) = somewhere in
       at_reaching conv client kept (λ s. (text : List ℕ) × HasHeard kept.asked text) stage prefix there
-      (λ goal link since at. (text_of link.side.server (drop link.opened prefix), at.heard))
+      (λ goal link since at. (text_of link.server (drop link.opened prefix), at.heard))
 
   module _ (moment : ℕ) (event : Event) (waits : KeptGoal) (after : UpstreamTunnel) (hears : (conv : ℕ) (client : Visitor) (moment : ℕ) → HearsGoal conv client kept.goal waits moment event) where
     pub can_go_on : (rest : List ℕ) → HearsProxy kept.server kept.asked after event told.Yes → rest ≡ rest_of after → CanGoOn kept.server waits rest moment

@@ -119,24 +119,24 @@ module _ (link : Link) (prefix : List (Timed Event)) (e : Timed Event) (open_cli
   pub later : drop link.opened (prefix ++ e ∷ []) ≡ drop link.opened prefix ++ e ∷ []
   later = drop-append-le link.opened prefix (e ∷ []) opened
 
-  pub server_more : bytes_of (Server link.side.server) (drop link.opened (prefix ++ e ∷ []))
-      ≡ bytes_of (Server link.side.server) (drop link.opened prefix) ++ piece_of (Server link.side.server) e.value
-  server_more = ap (λ l. bytes_of (Server link.side.server) l) later
-      ∙ bytes_more (Server link.side.server) (drop link.opened prefix) e (open_behind link.opened prefix open_client) unshut
+  pub server_more : bytes_of (Server link.server) (drop link.opened (prefix ++ e ∷ []))
+      ≡ bytes_of (Server link.server) (drop link.opened prefix) ++ piece_of (Server link.server) e.value
+  server_more = ap (λ l. bytes_of (Server link.server) l) later
+      ∙ bytes_more (Server link.server) (drop link.opened prefix) e (open_behind link.opened prefix open_client) unshut
 
-  pub server_closes : is_shut link (prefix ++ e ∷ []) ≡ closes (Server link.side.server) e.value
-  server_closes = ap (λ l. is_closed (Server link.side.server) l) later
-      ∙ (closed_more (Server link.side.server) (drop link.opened prefix) e (open_behind link.opened prefix open_client)
-      ∙ ap (λ b. b || closes (Server link.side.server) e.value) unshut)
+  pub server_closes : is_shut link (prefix ++ e ∷ []) ≡ closes (Server link.server) e.value
+  server_closes = ap (λ l. is_closed (Server link.server) l) later
+      ∙ (closed_more (Server link.server) (drop link.opened prefix) e (open_behind link.opened prefix open_client)
+      ∙ ap (λ b. b || closes (Server link.server) e.value) unshut)
 
   pub up_more : (used : ℕ) → used ≤ length (bytes_of Client prefix) →
       drop used (bytes_of Client (prefix ++ e ∷ [])) ≡ drop used (bytes_of Client prefix) ++ piece_of Client e.value
   up_more used within = ap (λ l. drop used l) client_more ∙ drop-append-le used (bytes_of Client prefix) (piece_of Client e.value) within
 
-  pub down_more : link.side.used ≤ length (bytes_of (Server link.side.server) (drop link.opened prefix)) →
-      text_on link (prefix ++ e ∷ []) ≡ text_on link prefix ++ piece_of (Server link.side.server) e.value
-  down_more within = ap (λ l. drop link.side.used l) server_more
-      ∙ drop-append-le link.side.used (bytes_of (Server link.side.server) (drop link.opened prefix)) (piece_of (Server link.side.server) e.value) within
+  pub down_more : link.used ≤ length (bytes_of (Server link.server) (drop link.opened prefix)) →
+      text_on link (prefix ++ e ∷ []) ≡ text_on link prefix ++ piece_of (Server link.server) e.value
+  down_more within = ap (λ l. drop link.used l) server_more
+      ∙ drop-append-le link.used (bytes_of (Server link.server) (drop link.opened prefix)) (piece_of (Server link.server) e.value) within
 
 -- ---- where it ends, and where it goes on
 
@@ -167,9 +167,9 @@ module _ (ends : TunnelEnds) (prefix : List (Timed Event)) (shut closed : Bool) 
   ends_by : (client_closed prefix || is_shut ends.link prefix) ≡ (closed || shut)
   ends_by = ap (λ b. b || is_shut ends.link prefix) closed_is ∙ ap (λ b. closed || b) shut_is
 
-  ends_with : (flow : Option Flow) → flow ≡ ends.flow → (shut || closed) ≡ true → raw_look ends prefix ≡ Ends (ending flow ends.link.side.server shut closed)
+  ends_with : (flow : Option Flow) → flow ≡ ends.flow → (shut || closed) ≡ true → raw_look ends prefix ≡ Ends (ending flow ends.link.server shut closed)
   ends_with flow same_flow is =
-      let server = ends.link.side.server in
+      let server = ends.link.server in
       found_by (client_closed prefix || is_shut ends.link prefix) _ (ends_by ∙ either shut closed is)
       ∙ ap Ends
       (ap (λ f. ending f server (is_shut ends.link prefix) (client_closed prefix)) (sym same_flow)
@@ -219,7 +219,7 @@ module _ (conv : ℕ) (client : Visitor) (ends : TunnelEnds) (prefix : List (Tim
 
 module _ (sides : Sides) (rests : Rests) (flow : Option Flow) (next : Child) where
   begun_both : (ends : TunnelEnds) (prefix : List (Timed Event)) → MayRelay ends prefix sides rests flow →
-      both_ways sides.server rests.client rests.server ≡ both_ways ends.link.side.server (text_up ends prefix) (text_down ends prefix)
+      both_ways sides.server rests.client rests.server ≡ both_ways ends.link.server (text_up ends prefix) (text_down ends prefix)
   begun_both ends prefix may = both_as _ _ _ _ _ _ may.server may.up may.down
 
   ends_here : (ends : TunnelEnds) (prefix : List (Timed Event)) → MayRelay ends prefix sides rests flow → (sides.shut || sides.closed) ≡ true →
@@ -232,7 +232,7 @@ module _ (sides : Sides) (rests : Rests) (flow : Option Flow) (next : Child) whe
       Relays sides rests flow next (given_for sides.server rests events.Begun ++ ending flow sides.server sides.shut sides.closed)
   over_relays over is conv client ends prefix may =
       let tail : List Command = ending flow sides.server sides.shut sides.closed in
-      let both : List Command = both_ways ends.link.side.server (text_up ends prefix) (text_down ends prefix) in
+      let both : List Command = both_ways ends.link.server (text_up ends prefix) (text_down ends prefix) in
       let look = ends_here ends prefix may is in
       record {
         there = kept_over conv client ends prefix next tail look over;
@@ -259,7 +259,7 @@ module _ (sides : Sides) (rests : Rests) (flow : Option Flow) (next : Child) whe
       server_of tunnel ≡ sides.server → rests_of tunnel ≡ no_rests → has_ended tunnel ≡ false → (sides.shut || sides.closed) ≡ false →
       Relays sides rests flow next (given_for sides.server rests events.Begun)
   raw_relays tunnel same server left goes_on is conv client ends prefix may =
-      let both : List Command = both_ways ends.link.side.server (text_up ends prefix) (text_down ends prefix) in
+      let both : List Command = both_ways ends.link.server (text_up ends prefix) (text_down ends prefix) in
       let look = goes_on_with ends prefix sides.shut sides.closed (sym may.shut) (sym may.closed) is in
       record {
         there = kept_raw conv client ends prefix next look (record {
@@ -297,12 +297,12 @@ module _ (kept : Relay) (next : Child) (event : Event) where
       up_more ends.link prefix e open_still.client open_still.server there.opened ends.used there.used ∙ nothing_more (text_up ends prefix) _ (none_brought Client (Server kept.server) event some.ends) in
       let down : text_down ends longer ≡ text_down ends prefix =
       down_more ends.link prefix e open_still.client open_still.server there.opened there.side_used
-      ∙ nothing_more (text_down ends prefix) _ (none_brought (Server ends.link.side.server) (Server kept.server) event some.ends) in
-      let both : List Command = both_ways ends.link.side.server (text_up ends prefix) (text_down ends prefix) in
+      ∙ nothing_more (text_down ends prefix) _ (none_brought (Server ends.link.server) (Server kept.server) event some.ends) in
+      let both : List Command = both_ways ends.link.server (text_up ends prefix) (text_down ends prefix) in
       onward look (kept_over conv client ends longer next more ends_now over)
       (λ view. sym (seen_append view both more)
       ∙ (ap (λ l. seen_of view (l ++ more)) (both_as _ _ _ _ _ _ refl (sym up) (sym down))
-      ∙ ap (λ l. seen_of view (both_ways ends.link.side.server (text_up ends longer) (text_down ends longer) ++ found l)) (sym ends_now)))
+      ∙ ap (λ l. seen_of view (both_ways ends.link.server (text_up ends longer) (text_down ends longer) ++ found l)) (sym ends_now)))
 
   -- where no side closes
   goes_relay : (tunnel : RawTunnel) (ends : TunnelEnds) (prefix : List (Timed Event)) (moment : ℕ) → IsOpen ends prefix → IsRelay ends prefix kept →
@@ -317,7 +317,7 @@ module _ (kept : Relay) (next : Child) (event : Event) where
         goes_on = goes_on;
         flow = there.flow;
         used = longer_bytes ends.used _ _ _ (client_more ends.link prefix e open_still.client open_still.server there.opened) there.used;
-        side_used = longer_bytes ends.link.side.used _ _ _ (server_more ends.link prefix e open_still.client open_still.server there.opened) there.side_used;
+        side_used = longer_bytes ends.link.used _ _ _ (server_more ends.link prefix e open_still.client open_still.server there.opened) there.side_used;
         opened = opened_more ends.link.opened prefix e there.opened;
       }
 
@@ -330,7 +330,7 @@ module _ (kept : Relay) (next : Child) (event : Event) where
       let longer : List (Timed Event) = prefix ++ e ∷ [] in
       let open_still = is_open ends prefix look in
       let none = none_closes kept.server event closes_none in
-      let number : ℕ = ends.link.side.server in
+      let number : ℕ = ends.link.server in
       let unshut : closes (Server number) event ≡ false = ap (λ n. closes (Server n) event) (sym there.same) ∙ none.unshut in
       let alone : left_alone number event ≡ None = none_alone number event unshut none.unclosed in
       let going : has_ended tunnel ≡ false = goes_on ∙ (ap (λ n. is_alone (left_alone n event)) there.server ∙ ap is_alone alone) in

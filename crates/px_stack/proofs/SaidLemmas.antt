@@ -62,18 +62,18 @@ shut_more server (f ∷ prefix) e unshut =
 
 -- of a side that is asked
 module _ (link : Link) (prefix : List (Timed Event)) (e : Timed Event) (opened : link.opened ≤ length prefix)
-    (unshut : closed_of link.side.server (drop link.opened prefix) ≡ false) where
-  pub heard_more : text_of link.side.server (drop link.opened (prefix ++ e ∷ [])) ≡ text_of link.side.server (drop link.opened prefix) ++ piece_of (Server link.side.server) e.value
-  heard_more = ap (text_of link.side.server) (drop-append-le link.opened prefix (e ∷ []) opened) ∙ text_more link.side.server (drop link.opened prefix) e unshut
+    (unshut : closed_of link.server (drop link.opened prefix) ≡ false) where
+  pub heard_more : text_of link.server (drop link.opened (prefix ++ e ∷ [])) ≡ text_of link.server (drop link.opened prefix) ++ piece_of (Server link.server) e.value
+  heard_more = ap (text_of link.server) (drop-append-le link.opened prefix (e ∷ []) opened) ∙ text_more link.server (drop link.opened prefix) e unshut
 
-  pub closed_more : closed_of link.side.server (drop link.opened (prefix ++ e ∷ [])) ≡ closes (Server link.side.server) e.value
-  closed_more = ap (closed_of link.side.server) (drop-append-le link.opened prefix (e ∷ []) opened) ∙ shut_more link.side.server (drop link.opened prefix) e unshut
+  pub closed_more : closed_of link.server (drop link.opened (prefix ++ e ∷ [])) ≡ closes (Server link.server) e.value
+  closed_more = ap (closed_of link.server) (drop-append-le link.opened prefix (e ∷ []) opened) ∙ shut_more link.server (drop link.opened prefix) e unshut
 
   pub answer_more : answer_of link (prefix ++ e ∷ [])
-      ≡ granting (text_of link.side.server (drop link.opened prefix) ++ piece_of (Server link.side.server) e.value) (closes (Server link.side.server) e.value)
+      ≡ granting (text_of link.server (drop link.opened prefix) ++ piece_of (Server link.server) e.value) (closes (Server link.server) e.value)
   answer_more =
-      ap (λ t. granting t (closed_of link.side.server (drop link.opened (prefix ++ e ∷ [])))) heard_more
-      ∙ ap (granting (text_of link.side.server (drop link.opened prefix) ++ piece_of (Server link.side.server) e.value)) closed_more
+      ap (λ t. granting t (closed_of link.server (drop link.opened (prefix ++ e ∷ [])))) heard_more
+      ∙ ap (granting (text_of link.server (drop link.opened prefix) ++ piece_of (Server link.server) e.value)) closed_more
 
 -- ---- while the client has not closed, it is what is heard of any side
 

@@ -52,8 +52,8 @@ dials_at (http place standing) = dialled_at standing
 dials_at (connecting tunnel) = tunnel.at.dials
 dials_at (reaching goal link since) = dials_of goal
 dials_at (undecided tunnel link since) = tunnel.at.dials
-dials_at (raw ends) = ends.link.side.server + 1
-dials_at (socket ends flow frames) = ends.link.side.server + 1
+dials_at (raw ends) = ends.link.server + 1
+dials_at (socket ends flow frames) = ends.link.server + 1
 dials_at over = 0
 
 -- the server's side that is open at a stage is among those that were dialled before it
@@ -63,8 +63,8 @@ GoalBelow (a_flow place from) server = server ≡ from.at.dials
 
 abbrev pub AllBelow : Stage → Type 0
 AllBelow (http place standing) = AreBelow standing
-AllBelow (reaching goal link since) = GoalBelow goal link.side.server
-AllBelow (undecided tunnel link since) = link.side.server < tunnel.at.dials
+AllBelow (reaching goal link since) = GoalBelow goal link.server
+AllBelow (undecided tunnel link since) = link.server < tunnel.at.dials
 AllBelow stage = ⊤
 
 -- ---- texts and closes
@@ -137,25 +137,25 @@ module _ (conv : ℕ) (client : Visitor) where
   abbrev Few : ℕ → Stage → Type 0
   Few most stage = (dials_at stage ≤ most) × AllBelow stage
 
-  tunnel_few : (place : Place) (standing : Standing) (at : At) (connect : Option Connect) → standing.stage ≡ idle at → AreBelow standing →
-      Few (dialled_at standing) (or_stays (http place standing) (tunnel_for place at connect))
-  tunnel_few place standing at None is below = (omega arith, below)
-  tunnel_few place standing at (Some connect) is below = let same : dialled standing.stage ≡ at.dials = ap dialled is in (omega arith, tt)
+  tunnel_few : (place : Place) (standing : Standing) (used : ℕ) (at : At) (connect : Option Connect) → standing.stage ≡ idle at → AreBelow standing →
+      Few (dialled_at standing) (or_stays (http place standing) (tunnel_for place used at connect))
+  tunnel_few place standing used at None is below = (omega arith, below)
+  tunnel_few place standing used at (Some connect) is below = let same : dialled standing.stage ≡ at.dials = ap dialled is in (omega arith, tt)
 
-  upgrades_few : (most : ℕ) (is : Bool) (flow : Flow) (moment : ℕ) (ends : TunnelEnds) → ends.link.side.server + 1 ≤ most → Few most (upgrades is flow moment ends)
+  upgrades_few : (most : ℕ) (is : Bool) (flow : Flow) (moment : ℕ) (ends : TunnelEnds) → ends.link.server + 1 ≤ most → Few most (upgrades is flow moment ends)
   upgrades_few most true flow moment ends less = (less, tt)
   upgrades_few most false flow moment ends less = (less, tt)
 
   hands_few : (place : Place) (standing : Standing) (stage : flows.Stage) (seen : Sight) → standing.stage ≡ stage → AreBelow standing → ServersBelow stage →
       Few (dialled_at standing) (or_stays (http place standing) (hands_by place standing stage seen))
-  hands_few place standing (idle at) seen is below here = tunnel_few place standing at (connect_in place (request_in at seen)) is below
+  hands_few place standing (idle at) seen is below here = tunnel_few place standing standing.used.client at (connect_in place (request_in seen)) is below
   hands_few place standing (busy at flow (request_body given)) seen is below here = (omega arith, below)
   hands_few place standing (busy at flow connection) seen is below here = (omega arith, below)
   hands_few place standing (busy at flow (response_head side how)) seen is below here = (omega arith, below)
   hands_few place standing (busy at flow (response_body side how)) seen is below here = (omega arith, below)
   hands_few place standing (busy at flow (upgraded side)) seen is below here =
       let same : dialled standing.stage ≡ at.dials = ap dialled is in
-      let less : side.server < at.dials = here in
+      let less : side < at.dials = here in
       upgrades_few (dialled_at standing) (is_websocket flow seen.closed) flow seen.now _ (omega arith)
   hands_few place standing (busy at flow given_head) seen is below here = (omega arith, below)
   hands_few place standing (busy at flow given_body) seen is below here = (omega arith, below)
@@ -168,12 +168,12 @@ module _ (conv : ℕ) (client : Visitor) where
   quietly : (most : ℕ) (stage : Stage) → Few most stage → Counts dials_at AllBelow most (record { owed = []; stage = stage })
   quietly most stage few = record { silent = λ server beyond. refl; few = few.0; stays = few.1 }
 
-  decided_few : (d : Decision) (tunnel : Tunnel) (link : Link) (since : Since) → link.side.server < tunnel.at.dials → Few tunnel.at.dials (follows d tunnel link since)
+  decided_few : (d : Decision) (tunnel : Tunnel) (link : Link) (since : Since) → link.server < tunnel.at.dials → Few tunnel.at.dials (follows d tunnel link since)
   decided_few still tunnel link since below = (omega arith, below)
   decided_few is_http tunnel link since below = (omega arith, below)
   decided_few is_raw tunnel link since below = (omega arith, tt)
 
-  goes_few : (closed : Bool) (tunnel : Tunnel) (link : Link) (since : Since) (prefix : List (Timed Event)) → link.side.server < tunnel.at.dials →
+  goes_few : (closed : Bool) (tunnel : Tunnel) (link : Link) (since : Since) (prefix : List (Timed Event)) → link.server < tunnel.at.dials →
       Few tunnel.at.dials (goes_by closed tunnel link since prefix)
   goes_few true tunnel link since prefix below = (omega arith, below)
   goes_few false tunnel link since prefix below = decided_few (decided (opening_text tunnel prefix) (has_answered link prefix)) tunnel link since below
@@ -181,35 +181,35 @@ module _ (conv : ℕ) (client : Visitor) where
   -- ---- another proxy, which has answered
 
   -- it is heard on its own side
-  way_below : (empty : Bool) (link : Link) (used come dials : ℕ) → link.side.server < dials → (way_by empty link used come).side.server < dials
+  way_below : (empty : Bool) (link : Link) (used come dials : ℕ) → link.server < dials → (way_by empty link used come).server < dials
   way_below true link used come dials below = below
   way_below false link used come dials below = below
 
-  way_there : (link : Link) (used : ℕ) (prefix : List (Timed Event)) (dials : ℕ) → link.side.server < dials → (way_to link used prefix).side.server < dials
+  way_there : (link : Link) (used : ℕ) (prefix : List (Timed Event)) (dials : ℕ) → link.server < dials → (way_to link used prefix).server < dials
   way_there link used prefix dials below = way_below (is_empty (text_behind link used prefix)) link used (length prefix) dials below
 
-  opened_counts : (tunnel : Tunnel) (link : Link) (since : Since) (prefix : List (Timed Event)) (used : ℕ) → link.side.server < tunnel.at.dials →
+  opened_counts : (tunnel : Tunnel) (link : Link) (since : Since) (prefix : List (Timed Event)) (used : ℕ) → link.server < tunnel.at.dials →
       Counts dials_at AllBelow tunnel.at.dials (pass_reached conv client (a_tunnel tunnel) link since prefix (granted used))
   opened_counts tunnel link since prefix used below =
       let few = goes_few (client_closed prefix) tunnel (way_to link used prefix) (from_here (now_over since prefix) prefix) prefix
       (way_there link used prefix tunnel.at.dials below) in
       record { silent = λ server beyond. refl; few = few.0; stays = few.1 }
 
-  connected_counts : (place : Place) (from : Dialling) (link : Link) (since : Since) (prefix : List (Timed Event)) (used : ℕ) → link.side.server ≡ from.at.dials →
+  connected_counts : (place : Place) (from : Dialling) (link : Link) (since : Since) (prefix : List (Timed Event)) (used : ℕ) → link.server ≡ from.at.dials →
       Counts dials_at AllBelow (from.at.dials + 1) (pass_reached conv client (a_flow place from) link since prefix (granted used))
   connected_counts place from link since prefix used is = record {
-    silent = λ server beyond. sent_silent server link.side.server _ (omega arith);
+    silent = λ server beyond. sent_silent server link.server _ (omega arith);
     few = omega arith;
     stays = way_there link used prefix (from.at.dials + 1) (omega arith);
   }
 
-  reached_counts : (goal : Goal) (link : Link) (since : Since) (prefix : List (Timed Event)) (g : Granting) → GoalBelow goal link.side.server →
+  reached_counts : (goal : Goal) (link : Link) (since : Since) (prefix : List (Timed Event)) (g : Granting) → GoalBelow goal link.server →
       Counts dials_at AllBelow (dials_of goal) (pass_reached conv client goal link since prefix g)
   reached_counts goal link since prefix awaited is = quietly (dials_of goal) (reaching goal link since) (omega arith, is)
   reached_counts (a_tunnel tunnel) link since prefix (granted used) is = opened_counts tunnel link since prefix used is
   reached_counts (a_flow place from) link since prefix (granted used) is = connected_counts place from link since prefix used is
   reached_counts (a_tunnel tunnel) link since prefix refused is = record {
-    silent = λ server beyond. closes_silent server link.side.server (closed_of link.side.server (drop link.opened prefix)) (closed_before link prefix);
+    silent = λ server beyond. closes_silent server link.server (closed_of link.server (drop link.opened prefix)) (closed_before link prefix);
     few = omega arith;
     stays = tt;
   }
@@ -220,7 +220,7 @@ module _ (conv : ℕ) (client : Visitor) where
   }
 
   -- a WebSocket
-  socket_counts : (ends : TunnelEnds) (flow : Flow) (most : ℕ) (on : Turn Frames Command) → ends.link.side.server + 1 ≤ most → Says (socket_terms client.key ends flow) on →
+  socket_counts : (ends : TunnelEnds) (flow : Flow) (most : ℕ) (on : Turn Frames Command) → ends.link.server + 1 ≤ most → Says (socket_terms client.key ends flow) on →
       Counts dials_at AllBelow most (socket_turn ends flow on)
   socket_counts ends flow most on less said = record {
     silent = λ server beyond. said_silent server (socket_terms client.key ends flow) on.stage (λ same. omega arith) on.owed said;
@@ -229,15 +229,15 @@ module _ (conv : ℕ) (client : Visitor) where
   }
 
   socket_passes : (ends : TunnelEnds) (flow : Flow) (frames : Frames) (prefix : List (Timed Event)) →
-      Counts dials_at AllBelow (ends.link.side.server + 1) (pass_socket conv client ends flow frames prefix)
-  socket_passes ends flow frames prefix = socket_counts ends flow (ends.link.side.server + 1) _ (omega arith) (pass_says (socket_terms client.key ends flow) (socket_sight ends prefix) frames)
+      Counts dials_at AllBelow (ends.link.server + 1) (pass_socket conv client ends flow frames prefix)
+  socket_passes ends flow frames prefix = socket_counts ends flow (ends.link.server + 1) _ (omega arith) (pass_says (socket_terms client.key ends flow) (socket_sight ends prefix) frames)
 
   begun_counts : (stage : Stage) (prefix : List (Timed Event)) → AllBelow stage → Counts dials_at AllBelow (dials_at stage) (begun conv client stage prefix)
   begun_counts (http place standing) prefix is = quietly (dialled_at standing) (http place standing) (omega arith, is)
   begun_counts (connecting tunnel) prefix is = quietly tunnel.at.dials (connecting tunnel) (omega arith, tt)
   begun_counts (reaching goal link since) prefix is = quietly (dials_of goal) (reaching goal link since) (omega arith, is)
   begun_counts (undecided tunnel link since) prefix is = quietly tunnel.at.dials (undecided tunnel link since) (omega arith, is)
-  begun_counts (raw ends) prefix is = quietly (ends.link.side.server + 1) (raw ends) (omega arith, tt)
+  begun_counts (raw ends) prefix is = quietly (ends.link.server + 1) (raw ends) (omega arith, tt)
   begun_counts (socket ends flow frames) prefix is = socket_passes ends flow frames prefix
   begun_counts over prefix is = quietly 0 over (omega arith, tt)
 
@@ -260,7 +260,7 @@ module _ (conv : ℕ) (client : Visitor) where
   passes (reaching goal link since) prefix is = reached_counts goal link since prefix (answer_of link prefix) is
   passes (undecided tunnel link since) prefix is =
       quietly tunnel.at.dials (goes_by (client_closed prefix) tunnel link since prefix) (goes_few (client_closed prefix) tunnel link since prefix is)
-  passes (raw ends) prefix is = quietly (ends.link.side.server + 1) (raw ends) (omega arith, tt)
+  passes (raw ends) prefix is = quietly (ends.link.server + 1) (raw ends) (omega arith, tt)
   passes (socket ends flow frames) prefix is = socket_passes ends flow frames prefix
   passes over prefix is = quietly 0 over (omega arith, tt)
 
@@ -271,13 +271,13 @@ module _ (conv : ℕ) (client : Visitor) where
   looks (undecided tunnel link since) prefix is server beyond =
       let shut : Bool = is_shut link prefix in
       let closed : Bool = client_closed prefix in
-      found_silent server (closed || shut) (closes_all link.side.server shut closed) (closes_silent server link.side.server shut closed)
+      found_silent server (closed || shut) (closes_all link.server shut closed) (closes_silent server link.server shut closed)
   looks (raw ends) prefix is server beyond =
       let closed : Bool = client_closed prefix in
       let shut : Bool = is_shut ends.link prefix in
-      let closes : List Command = closes_all ends.link.side.server shut closed in
+      let closes : List Command = closes_all ends.link.server shut closed in
       found_silent server (closed || shut) (finished_flow ends.flow ++ closes)
-      (silent_both server (finished_flow ends.flow) closes (finished_silent server ends.flow) (closes_silent server ends.link.side.server shut closed))
+      (silent_both server (finished_flow ends.flow) closes (finished_silent server ends.flow) (closes_silent server ends.link.server shut closed))
   looks (socket ends flow frames) prefix is server beyond = frames_silent server (socket_terms client.key ends flow) frames
   looks over prefix is server beyond = refl
 
@@ -286,7 +286,7 @@ module _ (conv : ℕ) (client : Visitor) where
   waits (connecting tunnel) prefix is server beyond = refl
   waits (reaching goal link since) prefix is server beyond = refl
   waits (undecided tunnel link since) prefix is server beyond = refl
-  waits (raw ends) prefix is server beyond = both_silent server ends.link.side.server (text_up ends prefix) (text_down ends prefix) beyond
+  waits (raw ends) prefix is server beyond = both_silent server ends.link.server (text_up ends prefix) (text_down ends prefix) beyond
   waits (socket ends flow frames) prefix is server beyond = refl
   waits over prefix is server beyond = refl
 
@@ -327,23 +327,23 @@ module _ (conv : ℕ) (client : Visitor) where
   IsLed stage None = ⊤
   IsLed stage (Some from) = dialled stage ≡ from.at.dials
 
-  led_is_by : (stage : flows.Stage) → IsLed stage (led_by stage)
-  led_is_by (idle at) = tt
-  led_is_by (busy at flow (request_body given)) = tt
-  led_is_by (busy at flow connection) = refl
-  led_is_by (busy at flow (response_head side how)) = tt
-  led_is_by (busy at flow (response_body side how)) = tt
-  led_is_by (busy at flow (upgraded side)) = tt
-  led_is_by (busy at flow given_head) = tt
-  led_is_by (busy at flow given_body) = tt
-  led_is_by (next at) = tt
-  led_is_by flows.over = tt
+  led_is_by : (used : ℕ) (stage : flows.Stage) → IsLed stage (led_by used stage)
+  led_is_by used (idle at) = tt
+  led_is_by used (busy at flow (request_body given)) = tt
+  led_is_by used (busy at flow connection) = refl
+  led_is_by used (busy at flow (response_head side how)) = tt
+  led_is_by used (busy at flow (response_body side how)) = tt
+  led_is_by used (busy at flow (upgraded side)) = tt
+  led_is_by used (busy at flow given_head) = tt
+  led_is_by used (busy at flow given_body) = tt
+  led_is_by used (next at) = tt
+  led_is_by used flows.over = tt
 
-  led_is : (place : Place) (stage : flows.Stage) → IsLed stage (led_at place stage)
-  led_is places.Regular stage = tt
-  led_is (places.Upstream proxy) stage = tt
-  led_is (places.Fixed address side None) stage = tt
-  led_is (places.Fixed address side (Some proxy)) stage = led_is_by stage
+  led_is : (place : Place) (standing : Standing) → IsLed standing.stage (led_at place standing)
+  led_is places.Regular standing = tt
+  led_is (places.Upstream proxy) standing = tt
+  led_is (places.Fixed address side None) standing = tt
+  led_is (places.Fixed address side (Some proxy)) standing = led_is_by standing.used.client standing.stage
 
   proxy_asked : (most : ℕ) (place : Place) (prefix : List (Timed Event)) (from : Dialling) (moment : ℕ) → from.at.dials + 1 ≤ most →
       Counts dials_at AllBelow most (asks_proxy conv client (a_flow place from) (address_of from.flow.request) from.at.dials prefix moment)
@@ -374,14 +374,14 @@ module _ (conv : ℕ) (client : Visitor) where
   turns : (stage : Stage) (prefix : List (Timed Event)) (ask : Command) (answer : Timed Reply) → AllBelow stage → (stack_chain conv client).look stage prefix ≡ Asks ask →
       Counts dials_at AllBelow (dials_at stage + connects answer.value) ((stack_chain conv client).turn stage prefix answer)
   turns (http place standing) prefix ask answer is asked =
-      http_turns (led_at place standing.stage) place standing prefix ask answer answer.value (led_is place standing.stage) refl is asked
+      http_turns (led_at place standing) place standing prefix ask answer answer.value (led_is place standing) refl is asked
   turns (connecting tunnel) prefix ask answer is asked = dial_turns tunnel prefix answer.value answer.moment
   turns (reaching goal link since) prefix ask answer is asked = absurd (let no : NotYet ≡ Asks ask = asked in cc)
   turns (undecided tunnel link since) prefix ask answer is asked = absurd (asks_not _ _ ask asked)
   turns (raw ends) prefix ask answer is asked = absurd (asks_not _ _ ask asked)
   turns (socket ends flow frames) prefix ask answer is asked =
       let more = connects answer.value in
-      socket_counts ends flow (ends.link.side.server + 1 + connects answer.value) _ (omega arith)
+      socket_counts ends flow (ends.link.server + 1 + connects answer.value) _ (omega arith)
       (turn_says (socket_terms client.key ends flow) (socket_sight ends prefix) frames answer.value answer.moment)
   turns over prefix ask answer is asked = absurd (let no : Ends [] ≡ Asks ask = asked in cc)
 

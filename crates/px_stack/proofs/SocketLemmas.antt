@@ -78,10 +78,10 @@ none_left server seen moment (events.Answered ask reply) = refl
 
 module _ (ends : TunnelEnds) (prefix : List (Timed Event)) (e : Timed Event) (open_still : client_closed prefix ≡ false) (unshut : is_shut ends.link prefix ≡ false)
     (opened : ends.link.opened ≤ length prefix) (used : ends.used ≤ length (bytes_of Client prefix))
-    (side_used : ends.link.side.used ≤ length (bytes_of (Server ends.link.side.server) (drop ends.link.opened prefix))) where
-  sees_more : (come_with ends.link.side.server (record { seen = socket_sight ends prefix; left = no_rests }) e).seen ≡ socket_sight ends (prefix ++ e ∷ [])
+    (side_used : ends.link.used ≤ length (bytes_of (Server ends.link.server) (drop ends.link.opened prefix))) where
+  sees_more : (come_with ends.link.server (record { seen = socket_sight ends prefix; left = no_rests }) e).seen ≡ socket_sight ends (prefix ++ e ∷ [])
   sees_more =
-      comes_as ends.link.side.server (text_up ends prefix) (text_down ends prefix) (client_closed prefix) (is_shut ends.link prefix) (last_moment 0 prefix) e.moment e.value
+      comes_as ends.link.server (text_up ends prefix) (text_down ends prefix) (client_closed prefix) (is_shut ends.link prefix) (last_moment 0 prefix) e.moment e.value
       open_still unshut
       ∙ sight_as _ _ _ _ _ _ _ _ _ _ (sym (up_more ends.link prefix e open_still unshut opened ends.used used)) (sym (client_closes ends.link prefix e open_still unshut opened))
       (sym (down_more ends.link prefix e open_still unshut opened side_used)) (sym (server_closes ends.link prefix e open_still unshut opened)) (sym (last_is 0 prefix e))
@@ -186,7 +186,7 @@ module _ (key : List ℕ) (moment : ℕ) (sides : Sides) (rests : Rests) (flow :
     leads : Leads its_terms begun_to (socket_sight ends prefix) kept.value begins.more
     leads =
         let P : Terms → Type 0 = λ terms. IsIn terms made (relaying first_at) nothing_seen in
-        let new : IsIn its_terms made (relaying first_at) nothing_seen = subst P (terms_as its_flow sides.server ends.link.side.server key client.key may.server (sym keyed)) is_new in
+        let new : IsIn its_terms made (relaying first_at) nothing_seen = subst P (terms_as its_flow sides.server ends.link.server key client.key may.server (sym keyed)) is_new in
         let Q : Sight → Type 0 = λ seen. Leads its_terms (pass its_terms (relaying (begins_at moment)) seen) seen kept.value begins.more in
         subst Q seen_first (begins.leads its_terms first_at nothing_seen last new)
 
@@ -243,10 +243,10 @@ module _ (kept after : Box WsLayer) (moment : ℕ) (event : Event) (out mid : Li
     unshut = framing.there.unshut
 
     heard : (now : Rests) → kept.value.rests ≡ now →
-        let come = come_with ends.link.side.server (record { seen = socket_sight ends prefix; left = now }) e in
+        let come = come_with ends.link.server (record { seen = socket_sight ends prefix; left = now }) e in
         Leads terms (pass terms (relaying at) come.seen) come.seen after.value hears.more × (after.value.rests ≡ come.left)
     heard now is =
-        let P : Rests → Type 0 = λ r. let come = come_with ends.link.side.server (record { seen = socket_sight ends prefix; left = r }) e in
+        let P : Rests → Type 0 = λ r. let come = come_with ends.link.server (record { seen = socket_sight ends prefix; left = r }) e in
         Leads terms (pass terms (relaying at) come.seen) come.seen after.value hears.more × (after.value.rests ≡ come.left) in
         subst P is (hears.leads terms at (socket_sight ends prefix) framing.there)
 
@@ -258,9 +258,9 @@ module _ (kept after : Box WsLayer) (moment : ℕ) (event : Event) (out mid : Li
     heard_framing : IsFraming client.key ends flow heard_to.stage longer after.value
     heard_framing = record {
       there = heard_leads.is_in;
-      rests = (heard no_rests framing.rests).1 ∙ none_left ends.link.side.server (socket_sight ends prefix) moment event;
+      rests = (heard no_rests framing.rests).1 ∙ none_left ends.link.server (socket_sight ends prefix) moment event;
       used = longer_bytes ends.used _ _ _ (client_more ends.link prefix e open_still unshut framing.opened) framing.used;
-      side_used = longer_bytes ends.link.side.used _ _ _ (server_more ends.link prefix e open_still unshut framing.opened) framing.side_used;
+      side_used = longer_bytes ends.link.used _ _ _ (server_more ends.link prefix e open_still unshut framing.opened) framing.side_used;
       opened = opened_more ends.link.opened prefix e framing.opened;
     }
 

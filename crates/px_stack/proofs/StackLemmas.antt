@@ -1,5 +1,5 @@
 -- From what a child does to what its conversation does.
-use Rattle.std.proofs.Common.{◌≡◌, ℕ, List, [], Option, Some, refl, ap, sym, ◌∙◌, subst}
+use Rattle.std.proofs.Common.{◌≡◌, ℕ, List, [], Option, Some, None, refl, ap, sym, ◌∙◌, subst}
 use Rattle.std.specs.Global.{Box}
 use Rattle.std.specs.Prelude.{IfOk, Result, Ok, Err}
 use Rattle.rand_chacha.specs.ChaCha.{key_of}
@@ -16,14 +16,13 @@ use Rattle.px_exchange.specs.declared.mode.Mode.TheVariants as modes
 use Rattle.px_exchange.specs.declared.place.Place.{Place}
 use Rattle.px_exchange.specs.declared.terms.Terms.{Terms}
 use Rattle.px_exchange.specs.Places.{place_of, terms_of}
-use Rattle.px_chain.specs.Chain.{begin, http_chain, sequence}
-use Rattle.px_chain.specs.Stages.{idle}
+use Rattle.px_chain.specs.Chain.{begin, parked_of}
+use Rattle.px_chain.specs.Stages.{At, idle}
 use Rattle.px_http.specs.declared.conversation.HttpConv.{HttpConv}
-use Rattle.px_http.specs.Stands.{HttpStands}
-use Rattle.px_stream.specs.declared.numbers.Numbers.{Numbers}
+use Rattle.px_http.specs.Stands.{HttpStands, ahead_of}
 use Rattle.px_stream.specs.declared.stream.Stream.{Stream}
-use Rattle.px_stream.specs.Sequence.{IsInSequence, IsSideBelow, ahead_of}
-use Rattle.px_stream.specs.Stands.{start_of as flow_start}
+use Rattle.px_stream.specs.Anywhere.{IsInSequence}
+use Rattle.px_stream.specs.Tells.{IsSideBelow}
 use Rattle.px_stack.specs.declared.child.Child.{Child}
 use Rattle.px_stack.specs.declared.child.Child.TheVariants as children
 use Rattle.px_stack.specs.declared.stack.Stack.{Stack}
@@ -39,25 +38,16 @@ use Rattle.px_stack.specs.Steps.{Adds, ResumesChild, TakesChild}
 -- ---- one that was made stands for itself
 
 -- no side of the first place is connected yet
-none_parked : (mode : Mode) → flow_start (place_of mode) (record { flow = 0; server = 0 }) ≡ first_at
+none_parked : (mode : Mode) → parked_of (place_of mode) ≡ None
 none_parked modes.Regular = refl
 none_parked (modes.Reverse address) = refl
 none_parked (modes.Upstream proxy) = refl
 
-pub starts : (mode : Mode) (place : Place) (numbers : Numbers) → place ≡ place_of mode → numbers ≡ record { flow = 0; server = 0 } →
-    http place (begin (idle (flow_start place numbers))) ≡ begins mode
-starts mode place numbers same none =
-    let at_place = ap (λ p. http p (begin (idle (flow_start p numbers)))) same in
-    let at_numbers = ap (λ n. http (place_of mode) (begin (idle (flow_start (place_of mode) n)))) none in
-    at_place ∙ (at_numbers ∙ ap (λ at. http (place_of mode) (begin (idle at))) (none_parked mode))
-
 -- where its flows are, before the first move
-abbrev FirstIn : Stream → Terms → Numbers → Type 0
-FirstIn stream terms numbers =
-    let stop = stop_of (http_chain sequence terms) (begin (idle (flow_start terms.place numbers))) [] in
-    IsInSequence terms (ahead_of numbers) stream stop.stage stop.prefix
+abbrev FirstIn : Stream → Terms → At → Type 0
+FirstIn stream terms at = IsInSequence terms (ahead_of at) stream (begin (idle at)) []
 
-first_there : (conv : ℕ) (client : Visitor) (mode : Mode) (stream : Stream) → FirstIn stream (terms_of conv client.address (place_of mode)) (record { flow = 0; server = 0 }) →
+first_there : (conv : ℕ) (client : Visitor) (mode : Mode) (stream : Stream) → FirstIn stream (terms_of conv client.address (place_of mode)) first_at →
     IsInSequence (terms_of conv client.address (place_of mode)) (ahead_at (place_of mode)) stream (begin (idle first_at)) []
 first_there conv client modes.Regular stream there = there
 first_there conv client (modes.Reverse address) stream there = there
@@ -67,19 +57,20 @@ first_there conv client (modes.Upstream proxy) stream there = there
 pub record IsMade (made : Stack) (mode : Mode) (flows : Box HttpConv) : Type 0 where
   pub child : made.child ≡ children.Http flows
   pub terms : flows.value.stream.terms ≡ terms_of made.conv made.client (place_of mode)
-  pub numbers : flows.value.stream.numbers ≡ record { flow = 0; server = 0 }
+  pub at : flows.value.stream.at ≡ first_at
   pub stands : HttpStands flows.value flows.value [] []
 
 pub starts_there : (made : Stack) (mode : Mode) (flows : Box HttpConv) → IsMade made mode flows → start_of made ≡ begins mode
 starts_there made mode flows is =
-    ap start_by is.child ∙ starts mode flows.value.stream.terms.place flows.value.stream.numbers (ap (λ t. t.place) is.terms) is.numbers
+    ap start_by is.child
+    ∙ (ap (λ t. http t.place (begin (idle flows.value.stream.at))) is.terms ∙ ap (λ at. http (place_of mode) (begin (idle at))) is.at)
 
 flows_there : (made : Stack) (mode : Mode) (flows : Box HttpConv) → IsMade made mode flows →
     IsInFlows made.conv (visitor_of made) (place_of mode) flows.value (begin (idle first_at)) []
 flows_there made mode flows is =
-    let P : Terms → Type 0 = λ terms. FirstIn flows.value.stream terms flows.value.stream.numbers in
-    let Q : Numbers → Type 0 = λ numbers. FirstIn flows.value.stream (terms_of made.conv made.client (place_of mode)) numbers in
-    first_there made.conv (visitor_of made) mode flows.value.stream (subst Q is.numbers (subst P is.terms is.stands.place))
+    let P : Terms → Type 0 = λ terms. FirstIn flows.value.stream terms flows.value.stream.at in
+    let Q : At → Type 0 = λ at. FirstIn flows.value.stream (terms_of made.conv made.client (place_of mode)) at in
+    first_there made.conv (visitor_of made) mode flows.value.stream (subst Q is.at (subst P is.terms is.stands.place))
 
 pub stands_made : (made : Stack) (mode : Mode) (flows : Box HttpConv) → IsMade made mode flows → StackStands made made [] []
 stands_made made mode flows is =
@@ -89,10 +80,14 @@ stands_made made mode flows is =
     subst P (sym (starts_there made mode flows is)) (begins_at (chain_of made) (settles_there made) (begins mode) (IsAt made) made there (λ view. refl))
 
 pub new_made : (made : Stack) (mode : Mode) (flows : Box HttpConv) (peer : Address) → made.child ≡ children.Http flows → made.client ≡ Some peer →
-    flows.value.stream.terms ≡ terms_of made.conv (Some peer) (place_of mode) → flows.value.stream.numbers ≡ record { flow = 0; server = 0 } →
+    flows.value.stream.terms ≡ terms_of made.conv (Some peer) (place_of mode) → flows.value.stream.at ≡ record { flow = 0; dials = 0; parked = parked_of (place_of mode) } →
     HttpStands flows.value flows.value [] [] → IsMade made mode flows
-new_made made mode flows peer child client terms numbers stands =
-    record { child = child; terms = terms ∙ ap (λ at. terms_of made.conv at (place_of mode)) (sym client); numbers = numbers; stands = stands }
+new_made made mode flows peer child client terms at stands = record {
+  child = child;
+  terms = terms ∙ ap (λ to. terms_of made.conv to (place_of mode)) (sym client);
+  at = at ∙ ap (λ p. let here : At = record { flow = 0; dials = 0; parked = p } in here) (none_parked mode);
+  stands = stands;
+}
 
 -- no side of the first place is connected
 pub has_no_side : (mode : Mode) (place : Place) → place ≡ place_of mode → IsSideBelow place 0

@@ -26,9 +26,9 @@ use Rattle.px_exchange.specs.Endings.{connection_goes_on}
 use Rattle.px_exchange.specs.Flows.{response_of, with_answer, with_body, with_end, with_returned, with_start}
 use Rattle.px_exchange.specs.Replies.{taken_at_request_body, taken_at_request_head, taken_at_response_body, taken_at_response_head}
 use Rattle.px_exchange.specs.Requests.{expects, flow_of, judged}
-use Rattle.px_chain.specs.Chain.{behind_flow, dial_leads, finish_by, goes_on_by, opened_by, parked_for, pass, pass_body, sequence, side_behind, stands, turn, turn_answer, turn_answer_head, turn_body, turn_given_head, turn_head, turn_judged, turn_response, turn_returned, turn_taken_answer, turn_taken_body, turn_taken_given, turn_taken_head, turn_taken_returned, turn_taken_whole, turn_whole_answer, used_more}
+use Rattle.px_chain.specs.Chain.{behind_flow, dial_leads, finish_by, goes_on_by, opened_by, parked_for, pass, pass_body, passed, sequence, stands, turn, turn_answer, turn_answer_head, turn_body, turn_given_head, turn_head, turn_judged, turn_response, turn_returned, turn_taken_answer, turn_taken_body, turn_taken_given, turn_taken_head, turn_taken_returned, turn_taken_whole, turn_whole_answer}
 use Rattle.px_chain.specs.Sights.{Sight, Standing, answers_in, dials_at, request_in, server_in, server_parked, sight_over}
-use Rattle.px_chain.specs.Stages.{At, Parked, ServerSide, Stage, busy, connection, given_body, given_head, idle, next, over, place_of, request_body, response_body, response_head, unparked, upgraded}
+use Rattle.px_chain.specs.Stages.{At, Parked, Stage, busy, connection, given_body, given_head, idle, next, over, place_of, request_body, response_body, response_head, unparked, upgraded}
 use Rattle.px_chain.specs.Streams.{client_closed}
 use Rattle.px_chain.proofs.FrontLaws.{closed_more, closed_stays, open_behind}
 use Rattle.px_chain.proofs.SilentLemmas.{IsParkedFrom, none_parked, same_parked}
@@ -74,17 +74,17 @@ body_passes at flow (Some response) (bad_body fault head body) now = refl
 
 stage_passes : (stage : Stage) (seen : Sight) → (place_of (pass stage seen)).parked ≡ (place_of stage).parked
 stage_passes (idle at) seen = refl
-stage_passes (busy at flow (request_body given)) seen = body_passes at flow given (request_in at seen) seen.now
+stage_passes (busy at flow (request_body given)) seen = body_passes at flow given (request_in seen) seen.now
 stage_passes (busy at flow connection) seen = refl
-stage_passes (busy at flow (response_head side how)) seen = refl
-stage_passes (busy at flow (response_body side how)) seen = refl
-stage_passes (busy at flow (upgraded side)) seen = refl
+stage_passes (busy at flow (response_head server how)) seen = refl
+stage_passes (busy at flow (response_body server how)) seen = refl
+stage_passes (busy at flow (upgraded server)) seen = refl
 stage_passes (busy at flow given_head) seen = refl
 stage_passes (busy at flow given_body) seen = refl
 stage_passes (next at) seen = refl
 stage_passes over seen = refl
 
-pub in_time_passed : (standing : Standing) (prefix : List (Timed Event)) → InTime standing prefix → InTime (record standing { stage = pass standing.stage (sight_over standing prefix) }) prefix
+pub in_time_passed : (standing : Standing) (prefix : List (Timed Event)) → InTime standing prefix → InTime (passed standing (sight_over standing prefix)) prefix
 in_time_passed standing prefix in_time =
     in_time_from (place_of standing.stage).parked _ standing.opened prefix (same_parked (stage_passes standing.stage (sight_over standing prefix))) in_time
 
@@ -111,9 +111,9 @@ head_parks terms at (complete head body trailers used) seen answer = judged_park
 head_parks terms at (bad_head fault) seen answer = none_parked refl
 head_parks terms at (bad_body fault head body) seen answer = judged_parks terms at head (judged terms.place head) seen answer
 
-goes_on_parks : (side : Option ServerSide) (place : Place) (at : At) (flow : Flow) → Parks at.parked (goes_on_by side place at flow).stage
+goes_on_parks : (side : Option ℕ) (place : Place) (at : At) (flow : Flow) → Parks at.parked (goes_on_by side place at flow).stage
 goes_on_parks None place at flow = same_parked refl
-goes_on_parks (Some side) place at flow = none_parked refl
+goes_on_parks (Some server) place at flow = none_parked refl
 
 taken_body_parks : (place : Place) (at : At) (flow : Flow) (taken : Taken Request) (moment : ℕ) (seen : Sight) → Parks at.parked (turn_taken_body place at flow taken moment seen).stage
 taken_body_parks place at flow (GoesOn request) moment seen = goes_on_parks (parked_for place request at.parked) place at (record flow { request = request })
@@ -125,26 +125,26 @@ body_parks place at flow missing seen answer = none_parked refl
 body_parks place at flow (part head body) seen answer = none_parked refl
 body_parks place at flow (complete head body trailers used) seen answer =
     let whole : Flow = with_body flow body.content trailers seen.now in
-    taken_body_parks place (used_more at used) whole (taken_at_request_body whole.request answer.value) answer.moment seen
+    taken_body_parks place at whole (taken_at_request_body whole.request answer.value) answer.moment seen
 body_parks place at flow (bad_head fault) seen answer = none_parked refl
 body_parks place at flow (bad_body fault head body) seen answer = none_parked refl
 
-taken_answer_parks : (at : At) (flow : Flow) (side : ServerSide) (taken : Taken Response) (moment : ℕ) (used : Used) (closed : Bool) →
-    Parks at.parked (turn_taken_answer at flow side taken moment used closed).stage
-taken_answer_parks at flow side (GoesOn response) moment used closed = same_parked refl
-taken_answer_parks at flow side (Responds response) moment used closed = none_parked refl
-taken_answer_parks at flow side Kills moment used closed = none_parked refl
+taken_answer_parks : (at : At) (flow : Flow) (server : ℕ) (taken : Taken Response) (moment : ℕ) (used : Used) (closed : Bool) →
+    Parks at.parked (turn_taken_answer at flow server taken moment used closed).stage
+taken_answer_parks at flow server (GoesOn response) moment used closed = same_parked refl
+taken_answer_parks at flow server (Responds response) moment used closed = none_parked refl
+taken_answer_parks at flow server Kills moment used closed = none_parked refl
 
-answer_head_parks : (at : At) (flow : Flow) (side : ServerSide) (head : ReadResponse) (seen : Sight) (answer : Timed Reply) → Parks at.parked (turn_answer_head at flow side head seen answer).stage
-answer_head_parks at flow side head seen answer =
-    taken_answer_parks at (with_answer flow (response_of head) seen.now) side (taken_at_response_head (response_of head) answer.value) answer.moment (server_in side seen) seen.closed
+answer_head_parks : (at : At) (flow : Flow) (server : ℕ) (head : ReadResponse) (seen : Sight) (answer : Timed Reply) → Parks at.parked (turn_answer_head at flow server head seen answer).stage
+answer_head_parks at flow server head seen answer =
+    taken_answer_parks at (with_answer flow (response_of head) seen.now) server (taken_at_response_head (response_of head) answer.value) answer.moment (server_in server seen) seen.closed
 
-answer_parks : (at : At) (flow : Flow) (side : ServerSide) (item : Item ReadResponse) (seen : Sight) (answer : Timed Reply) → Parks at.parked (turn_answer at flow side item seen answer).stage
-answer_parks at flow side missing seen answer = none_parked refl
-answer_parks at flow side (part head body) seen answer = answer_head_parks at flow side head seen answer
-answer_parks at flow side (complete head body trailers size) seen answer = answer_head_parks at flow side head seen answer
-answer_parks at flow side (bad_head fault) seen answer = none_parked refl
-answer_parks at flow side (bad_body fault head body) seen answer = answer_head_parks at flow side head seen answer
+answer_parks : (at : At) (flow : Flow) (server : ℕ) (item : Item ReadResponse) (seen : Sight) (answer : Timed Reply) → Parks at.parked (turn_answer at flow server item seen answer).stage
+answer_parks at flow server missing seen answer = none_parked refl
+answer_parks at flow server (part head body) seen answer = answer_head_parks at flow server head seen answer
+answer_parks at flow server (complete head body trailers size) seen answer = answer_head_parks at flow server head seen answer
+answer_parks at flow server (bad_head fault) seen answer = none_parked refl
+answer_parks at flow server (bad_body fault head body) seen answer = answer_head_parks at flow server head seen answer
 
 behind_parks : (stays : Bool) (at : At) → Parks at.parked (behind_flow stays at)
 behind_parks true at = same_parked refl
@@ -165,29 +165,28 @@ taken_returned_parks at flow (GoesOn response) moment parked closed = behind_par
 taken_returned_parks at flow (Responds response) moment parked closed = none_parked refl
 taken_returned_parks at flow Kills moment parked closed = none_parked refl
 
-finish_parks : (switches : Bool) (at : At) (flow : Flow) (response : Response) (side : ServerSide) (used : Used) (closed : Bool) →
-    Parks at.parked (finish_by switches at flow response side used closed).stage
-finish_parks true at flow response side used closed = same_parked refl
-finish_parks false at flow response side used closed = none_behind at.parked (connection_goes_on at.flow flow.request response) at
+finish_parks : (switches : Bool) (at : At) (flow : Flow) (response : Response) (server : ℕ) (used : Used) (closed : Bool) →
+    Parks at.parked (finish_by switches at flow response server used closed).stage
+finish_parks true at flow response server used closed = same_parked refl
+finish_parks false at flow response server used closed = none_behind at.parked (connection_goes_on at.flow flow.request response) at
 
-taken_whole_parks : (at : At) (flow : Flow) (side : ServerSide) (taken : Taken Response) (moment : ℕ) (used : Used) (closed : Bool) →
-    Parks at.parked (turn_taken_whole at flow side taken moment used closed).stage
-taken_whole_parks at flow side (GoesOn response) moment used closed = finish_parks (response.status == 101) at flow response side used closed
-taken_whole_parks at flow side (Responds response) moment used closed = none_parked refl
-taken_whole_parks at flow side Kills moment used closed = none_parked refl
+taken_whole_parks : (at : At) (flow : Flow) (server : ℕ) (taken : Taken Response) (moment : ℕ) (used : Used) (closed : Bool) →
+    Parks at.parked (turn_taken_whole at flow server taken moment used closed).stage
+taken_whole_parks at flow server (GoesOn response) moment used closed = finish_parks (response.status == 101) at flow response server used closed
+taken_whole_parks at flow server (Responds response) moment used closed = none_parked refl
+taken_whole_parks at flow server Kills moment used closed = none_parked refl
 
-returned_parks : (at : At) (flow : Flow) (side : ServerSide) (interim : ℕ) (item : Item ReadResponse) (seen : Sight) (answer : Timed Reply) →
-    Parks at.parked (turn_returned at flow side interim item seen answer).stage
-returned_parks at flow side interim missing seen answer = none_parked refl
-returned_parks at flow side interim (part head body) seen answer = none_parked refl
-returned_parks at flow side interim (complete head body trailers size) seen answer =
+returned_parks : (at : At) (flow : Flow) (server : ℕ) (item : Item ReadResponse) (seen : Sight) (answer : Timed Reply) →
+    Parks at.parked (turn_returned at flow server item seen answer).stage
+returned_parks at flow server missing seen answer = none_parked refl
+returned_parks at flow server (part head body) seen answer = none_parked refl
+returned_parks at flow server (complete head body trailers size) seen answer =
     let whole : Flow = with_returned flow body.content trailers seen.now in
-    let side_left : ServerSide = side_behind side (interim + size) in
     response_parks at.parked whole.response (λ response. taken_at_response_body response answer.value)
-    (λ taken. turn_taken_whole at whole side_left taken answer.moment (server_in side seen) seen.closed)
-    (λ taken. taken_whole_parks at whole side_left taken answer.moment (server_in side seen) seen.closed)
-returned_parks at flow side interim (bad_head fault) seen answer = none_parked refl
-returned_parks at flow side interim (bad_body fault head body) seen answer = none_parked refl
+    (λ taken. turn_taken_whole at whole server taken answer.moment (server_in server seen) seen.closed)
+    (λ taken. taken_whole_parks at whole server taken answer.moment (server_in server seen) seen.closed)
+returned_parks at flow server (bad_head fault) seen answer = none_parked refl
+returned_parks at flow server (bad_body fault head body) seen answer = none_parked refl
 
 taken_given_parks : (at : At) (flow : Flow) (taken : Taken Response) (moment : ℕ) (parked : Used) (closed : Bool) → Parks at.parked (turn_taken_given at flow taken moment parked closed).stage
 taken_given_parks at flow (GoesOn response) moment parked closed = same_parked refl
@@ -217,16 +216,16 @@ dial_parks place at flow reply.Discard = refl
 
 turned_by : (terms : Terms) (stage : Stage) (seen : Sight) (answer : Timed Reply) (opened come : ℕ) (prefix : List (Timed Event)) → OpensInTime (place_of stage).parked opened prefix →
     OpensInTime (place_of (sequence (turn terms stage seen answer).stage)).parked (opened_by (dials_at stage) opened come) prefix
-turned_by terms (idle at) seen answer opened come prefix in_time = in_time_from at.parked _ opened prefix (head_parks terms at (request_in at seen) seen answer) in_time
+turned_by terms (idle at) seen answer opened come prefix in_time = in_time_from at.parked _ opened prefix (head_parks terms at (request_in seen) seen answer) in_time
 turned_by terms (busy at flow (request_body given)) seen answer opened come prefix in_time =
-    in_time_from at.parked _ opened prefix (body_parks terms.place at flow (request_in at seen) seen answer) in_time
+    in_time_from at.parked _ opened prefix (body_parks terms.place at flow (request_in seen) seen answer) in_time
 turned_by terms (busy at flow connection) seen answer opened come prefix in_time =
     let P : Option Parked → Type 0 = λ p. OpensInTime p come prefix in subst P (sym (dial_parks terms.place at flow answer.value)) tt
-turned_by terms (busy at flow (response_head side how)) seen answer opened come prefix in_time =
-    in_time_from at.parked _ opened prefix (answer_parks at flow side (answers_in flow.request side seen).final seen answer) in_time
-turned_by terms (busy at flow (response_body side how)) seen answer opened come prefix in_time =
-    let answers = answers_in flow.request side seen in in_time_from at.parked _ opened prefix (returned_parks at flow side answers.used answers.final seen answer) in_time
-turned_by terms (busy at flow (upgraded side)) seen answer opened come prefix in_time = tt
+turned_by terms (busy at flow (response_head server how)) seen answer opened come prefix in_time =
+    in_time_from at.parked _ opened prefix (answer_parks at flow server (answers_in flow.request seen).final seen answer) in_time
+turned_by terms (busy at flow (response_body server how)) seen answer opened come prefix in_time =
+    in_time_from at.parked _ opened prefix (returned_parks at flow server (answers_in flow.request seen).final seen answer) in_time
+turned_by terms (busy at flow (upgraded server)) seen answer opened come prefix in_time = tt
 turned_by terms (busy at flow given_head) seen answer opened come prefix in_time =
     in_time_from at.parked _ opened prefix (given_parks at (with_start flow seen.now) answer (server_parked at.parked seen) seen.closed) in_time
 turned_by terms (busy at flow given_body) seen answer opened come prefix in_time =

@@ -20,7 +20,7 @@ use Rattle.px_exchange.specs.Dials.{connected_owes}
 use Rattle.px_exchange.specs.Endings.{ends_by_fault, refuses, shut_all}
 use Rattle.px_exchange.specs.Places.{address_of, place_of, terms_of}
 use Rattle.px_exchange.specs.Texts.{connected_text}
-use Rattle.px_chain.specs.Chain.{Connect, begin, connect_in, http_chain, new_side, reached, sequence, used_more}
+use Rattle.px_chain.specs.Chain.{Connect, begin, connect_in, http_chain, reached, sequence}
 use Rattle.px_chain.specs.Sights.{Sight, Standing, request_in, sight_over}
 use Rattle.px_chain.specs.Stages.{At, all_sent, busy, connection, idle, response_head, unparked, upgraded}
 use Rattle.px_chain.specs.Stages as flows
@@ -42,10 +42,10 @@ abbrev pub proxy_at : Place → Option Address
 proxy_at (places.Upstream proxy) = Some proxy
 proxy_at place = None
 
-abbrev pub tunnel_for : Place → At → Option Connect → Option Stage
-tunnel_for place at None = None
-tunnel_for place at (Some connect) =
-    Some (connecting (record { at = used_more at connect.used; address = connect.address; proxy = proxy_at place }))
+abbrev pub tunnel_for : Place → ℕ → At → Option Connect → Option Stage
+tunnel_for place used at None = None
+tunnel_for place used at (Some connect) =
+    Some (connecting (record { at = at; used = used + connect.used; address = connect.address; proxy = proxy_at place }))
 
 -- Another protocol follows at this moment: a WebSocket, or one that is not read. Where a WebSocket begins, no frame was read yet.
 abbrev pub upgrades : Bool → Flow → ℕ → TunnelEnds → Stage
@@ -54,9 +54,12 @@ upgrades false flow moment ends = raw ends
 
 -- behind a CONNECT, and behind a response of code 101
 abbrev pub hands_by : Place → Standing → flows.Stage → Sight → Option Stage
-hands_by place standing (idle at) seen = tunnel_for place at (connect_in place (request_in at seen))
-hands_by place standing (busy at flow (upgraded side)) seen = Some (upgrades (is_websocket flow seen.closed) flow seen.now
-    (record { used = at.used; link = record { side = side; opened = standing.opened }; flow = Some flow }))
+hands_by place standing (idle at) seen = tunnel_for place standing.used.client at (connect_in place (request_in seen))
+hands_by place standing (busy at flow (upgraded server)) seen = Some (upgrades (is_websocket flow seen.closed) flow seen.now (record {
+  used = standing.used.client;
+  link = record { server = server; used = standing.used.server; opened = standing.opened };
+  flow = Some flow;
+}))
 hands_by place standing stage seen = None
 
 abbrev pub hands_over : Place → Standing → List (Timed Event) → Option Stage
@@ -70,10 +73,10 @@ or_stays stage (Some to) = to
 
 -- what has come of the client behind the CONNECT, and of the server
 abbrev pub opening_text : Tunnel → List (Timed Event) → List ℕ
-opening_text tunnel prefix = drop tunnel.at.used (bytes_of Client prefix)
+opening_text tunnel prefix = drop tunnel.used (bytes_of Client prefix)
 
 abbrev pub text_on : Link → List (Timed Event) → List ℕ
-text_on link prefix = drop link.side.used (bytes_of (Server link.side.server) (drop link.opened prefix))
+text_on link prefix = drop link.used (bytes_of (Server link.server) (drop link.opened prefix))
 
 abbrev pub is_empty : List ℕ → Bool
 is_empty text = length text == 0
@@ -83,17 +86,18 @@ has_answered link prefix = not (is_empty (text_on link prefix))
 
 -- HTTP in a tunnel goes to where the CONNECT asked to, the first request on the side that is connected, which is parked until then
 abbrev pub inner_place : Tunnel → Link → Place
-inner_place tunnel link = places.Fixed tunnel.address (Some link.side.server) tunnel.proxy
+inner_place tunnel link = places.Fixed tunnel.address (Some link.server) tunnel.proxy
 
 abbrev pub inner_standing : Tunnel → Link → Since → Standing
 inner_standing tunnel link since = record {
-  stage = idle (record tunnel.at { parked = Some (record { side = link.side; address = tunnel.address }) });
+  stage = idle (record tunnel.at { parked = Some (record { server = link.server; address = tunnel.address }) });
   since = since;
   opened = link.opened;
+  used = record { client = tunnel.used; server = link.used };
 }
 
 abbrev pub tunnel_ends : Tunnel → Link → TunnelEnds
-tunnel_ends tunnel link = record { used = tunnel.at.used; link = link; flow = None }
+tunnel_ends tunnel link = record { used = tunnel.used; link = link; flow = None }
 
 abbrev pub follows : Decision → Tunnel → Link → Since → Stage
 follows still tunnel link since = undecided tunnel link since
@@ -119,7 +123,7 @@ closed_of server (e ∷ prefix) = closes (Server server) e.value || closed_of se
 
 -- its answer, as far as it has come
 abbrev pub answer_of : Link → List (Timed Event) → Granting
-answer_of link prefix = granting (text_of link.side.server (drop link.opened prefix)) (closed_of link.side.server (drop link.opened prefix))
+answer_of link prefix = granting (text_of link.server (drop link.opened prefix)) (closed_of link.server (drop link.opened prefix))
 
 -- What came of the server behind the proxy's head; behind the client's close nothing is heard of it.
 abbrev pub unless_closed : Bool → List ℕ → List ℕ
@@ -127,12 +131,12 @@ unless_closed true text = []
 unless_closed false text = text
 
 abbrev pub text_behind : Link → ℕ → List (Timed Event) → List ℕ
-text_behind link used prefix = unless_closed (client_closed prefix) (drop used (text_of link.side.server (drop link.opened prefix)))
+text_behind link used prefix = unless_closed (client_closed prefix) (drop used (text_of link.server (drop link.opened prefix)))
 
 -- Where the server is heard: from here on where nothing came behind the head, and else behind the head.
 abbrev pub way_by : Bool → Link → ℕ → ℕ → Link
-way_by true link used come = record { side = new_side link.side.server; opened = come }
-way_by false link used come = record { side = record { server = link.side.server; used = used }; opened = link.opened }
+way_by true link used come = record { server = link.server; used = 0; opened = come }
+way_by false link used come = record { server = link.server; used = used; opened = link.opened }
 
 abbrev pub way_to : Link → ℕ → List (Timed Event) → Link
 way_to link used prefix = way_by (is_empty (text_behind link used prefix)) link used (length prefix)
@@ -140,14 +144,15 @@ way_to link used prefix = way_by (is_empty (text_behind link used prefix)) link 
 -- a flow that is connected so
 abbrev pub connected_on : Place → Dialling → Link → Since → Standing
 connected_on place from way since = record {
-  stage = busy (record from.at { dials = from.at.dials + 1 }) (reached place from.flow) (response_head way.side all_sent);
+  stage = busy (record from.at { dials = from.at.dials + 1 }) (reached place from.flow) (response_head way.server all_sent);
   since = since;
   opened = way.opened;
+  used = record { client = from.used; server = way.used };
 }
 
 -- the proxy's side, and whether it closed
 abbrev pub used_proxy : Link → List (Timed Event) → Used
-used_proxy link prefix = ByServer link.side.server (closed_of link.side.server (drop link.opened prefix))
+used_proxy link prefix = ByServer link.server (closed_of link.server (drop link.opened prefix))
 
 -- A proxy is a part of a dial: an end by what it says comes at the place of the dial, and what closed behind that was not heard there.
 abbrev pub closed_before : Link → List (Timed Event) → Bool
@@ -162,7 +167,7 @@ abbrev pub text_down : TunnelEnds → List (Timed Event) → List ℕ
 text_down ends prefix = text_on ends.link prefix
 
 abbrev pub is_shut : Link → List (Timed Event) → Bool
-is_shut link prefix = is_closed (Server link.side.server) (drop link.opened prefix)
+is_shut link prefix = is_closed (Server link.server) (drop link.opened prefix)
 
 -- the flow that became the tunnel ends with it, and without an error
 abbrev pub finished_flow : Option Flow → List Command
@@ -181,13 +186,13 @@ abbrev pub raw_look : TunnelEnds → List (Timed Event) → Look Command
 raw_look ends prefix =
     let closed = client_closed prefix in
     let shut = is_shut ends.link prefix in
-    tunnel_found (closed || shut) (finished_flow ends.flow ++ closes_all ends.link.side.server shut closed)
+    tunnel_found (closed || shut) (finished_flow ends.flow ++ closes_all ends.link.server shut closed)
 
 abbrev pub opening_look : Link → List (Timed Event) → Look Command
 opening_look link prefix =
     let closed = client_closed prefix in
     let shut = is_shut link prefix in
-    tunnel_found (closed || shut) (closes_all link.side.server shut closed)
+    tunnel_found (closed || shut) (closes_all link.server shut closed)
 
 -- ---- dials
 
@@ -196,18 +201,18 @@ abbrev pub dialled_by : Tunnel → Address
 dialled_by tunnel = unwrap_or tunnel.proxy tunnel.address
 
 -- a flow whose server is dialled through another proxy; the side that was parked is closed by then
-abbrev pub led_by : flows.Stage → Option Dialling
-led_by (busy at flow connection) = Some (record { at = unparked at; flow = flow })
-led_by stage = None
+abbrev pub led_by : ℕ → flows.Stage → Option Dialling
+led_by used (busy at flow connection) = Some (record { at = unparked at; used = used; flow = flow })
+led_by used stage = None
 
-abbrev pub led_at : Place → flows.Stage → Option Dialling
-led_at (places.Fixed address side (Some proxy)) stage = led_by stage
-led_at place stage = None
+abbrev pub led_at : Place → Standing → Option Dialling
+led_at (places.Fixed address side (Some proxy)) standing = led_by standing.used.client standing.stage
+led_at place standing = None
 
 -- ---- a WebSocket
 
 abbrev pub socket_terms : List ℕ → TunnelEnds → Flow → Terms
-socket_terms key ends flow = record { flow = flow; server = ends.link.side.server; key = key }
+socket_terms key ends flow = record { flow = flow; server = ends.link.server; key = key }
 
 abbrev pub socket_sight : TunnelEnds → List (Timed Event) → SocketSight
 socket_sight ends prefix = record {
@@ -240,7 +245,7 @@ module _ (conv : ℕ) (client : Visitor) where
     stage = goes_by (client_closed prefix) tunnel (way_to link used prefix) (from_here (now_over since prefix) prefix) prefix;
   }
   pass_reached (a_flow place from) link since prefix (granted used) = record {
-    owed = connected_owes place from.flow link.side.server;
+    owed = connected_owes place from.flow link.server;
     stage = http place (connected_on place from (way_to link used prefix) (from_here (now_over since prefix) prefix));
   }
   pass_reached (a_tunnel tunnel) link since prefix refused =
@@ -281,7 +286,7 @@ module _ (conv : ℕ) (client : Visitor) where
   abbrev pub so_far : Stage → List (Timed Event) → List Command
   so_far (http place standing) prefix = (flows_at place).so_far standing prefix
   so_far (raw ends) prefix =
-      commands.Send (Server ends.link.side.server) (text_up ends prefix) ∷ commands.Send Client (text_down ends prefix) ∷ []
+      commands.Send (Server ends.link.server) (text_up ends prefix) ∷ commands.Send Client (text_down ends prefix) ∷ []
   so_far stage prefix = []
 
   -- behind the dial for a flow the side that was parked is closed
@@ -295,7 +300,7 @@ module _ (conv : ℕ) (client : Visitor) where
 
   -- a server that is connected, or a proxy, which is asked for a tunnel to there
   abbrev pub link_at : ℕ → List (Timed Event) → Link
-  link_at server prefix = record { side = new_side server; opened = length prefix }
+  link_at server prefix = record { server = server; used = 0; opened = length prefix }
 
   abbrev pub asks_proxy : Goal → Address → ℕ → List (Timed Event) → ℕ → Turn Stage Command
   asks_proxy goal address server prefix moment = record {
@@ -326,7 +331,7 @@ module _ (conv : ℕ) (client : Visitor) where
   turn_http from place standing prefix answer value = turn_flows place standing prefix answer
 
   abbrev pub turn : Stage → List (Timed Event) → Timed Reply → Turn Stage Command
-  turn (http place standing) prefix answer = turn_http (led_at place standing.stage) place standing prefix answer answer.value
+  turn (http place standing) prefix answer = turn_http (led_at place standing) place standing prefix answer answer.value
   turn (connecting tunnel) prefix answer = turn_dial tunnel prefix answer.value answer.moment
   turn (socket ends flow frames) prefix answer =
       socket_turn ends flow (relay.turn (socket_terms client.key ends flow) frames (socket_sight ends prefix) answer.value answer.moment)
@@ -337,7 +342,7 @@ module _ (conv : ℕ) (client : Visitor) where
 
 -- where a conversation begins, in this mode
 abbrev pub first_at : At
-first_at = record { flow = 0; dials = 0; used = 0; parked = None }
+first_at = record { flow = 0; dials = 0; parked = None }
 
 abbrev pub begins : Mode → Stage
 begins mode = http (place_of mode) (begin (idle first_at))

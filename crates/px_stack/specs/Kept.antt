@@ -9,8 +9,7 @@ use Rattle.px_relay.specs.declared.layer.WsLayer.{WsLayer}
 use Rattle.px_relay.specs.Chain.{most_whole}
 use Rattle.px_relay.specs.Kept.{left_in, ws_keeps}
 use Rattle.px_relay.specs.Stands as frames
-use Rattle.px_stream.specs.Kept.{stream_keeps}
-use Rattle.px_stream.specs.Left.{sequence_left}
+use Rattle.px_stream.specs.Tells.{sequence_left, stream_keeps}
 use Rattle.px_tunnel.specs.Reaching.{rest_of}
 use Rattle.px_stack.specs.declared.child.Child.{Child}
 use Rattle.px_stack.specs.declared.child.Child.TheVariants as children
@@ -20,7 +19,7 @@ use Rattle.px_stack.specs.declared.child.Goal.TheVariants as goals
 -- what is awaited
 abbrev pub awaited_by : Child → Option Ask
 awaited_by (children.Http flows) = awaits flows.value
-awaited_by (children.Connecting opening closed) = Some (asks.Dial opening.numbers.server)
+awaited_by (children.Connecting opening closed) = Some (asks.Dial opening.dials)
 awaited_by (children.Socket layer) = frames.awaits layer.value
 awaited_by child = None
 

@@ -1,5 +1,5 @@
 -- The laws of the chain: at one prefix passing settles at once, and in each view what is owed while it waits only grows.
-use Rattle.std.proofs.Common.{◌≡◌, ℕ, Bool, true, false, List, [], ◌∷◌, ◌++◌, drop, Option, Some, None, refl, ap, sym, ◌∙◌, subst, append-nil, append_assoc}
+use Rattle.std.proofs.Common.{◌≡◌, ℕ, ◌+◌, Bool, true, false, List, [], ◌∷◌, ◌++◌, drop, Option, Some, None, refl, ap, sym, ◌∙◌, subst, append-nil, append_assoc}
 use Rattle.std.specs.Prelude.{zero, suc, ◌≢◌, ◌||◌, ⊤, bytes_eq, Result, Ok, Err}
 use Rattle.px_text.specs.Prefix.{IsPrefixOf}
 use Rattle.px_message.specs.declared.address.Address.{Address}
@@ -28,7 +28,7 @@ use Rattle.px_exchange.specs.Endings.{shut_server}
 use Rattle.px_exchange.specs.Places.{terms_of}
 use Rattle.px_exchange.specs.Finds.{look_head, look_judged, or_leaves}
 use Rattle.px_exchange.specs.Requests.{judged, judged_goal, judged_length, judged_method}
-use Rattle.px_chain.specs.Chain.{Connect, connect_by, connect_in, look as look_of, so_far as so_far_of, sequence, used_more}
+use Rattle.px_chain.specs.Chain.{Connect, connect_by, connect_in, look as look_of, so_far as so_far_of, sequence}
 use Rattle.px_chain.specs.Sights.{Sight, Standing, request_in, server_parked, sight_over}
 use Rattle.px_chain.specs.Stages.{At, busy, connection, given_body, given_head, idle, next, place_of, request_body, response_body, response_head, upgraded}
 use Rattle.px_chain.specs.Stages as flows
@@ -114,27 +114,27 @@ item_ends terms index (bad_head fault) moment parked closed connect is = absurd 
 item_ends terms index (bad_body fault head body) moment parked closed connect is = absurd (let no : None ≡ Some connect = is in cc)
 
 -- from a head that is awaited it hands over exactly by a CONNECT
-idle_hands : (terms : Terms) (at : At) (seen : Sight) (to : Stage) (found : Option Connect) → connect_in terms.place (request_in at seen) ≡ found →
-    tunnel_for terms.place at found ≡ Some to → HandsOver terms (idle at) seen to
-idle_hands terms at seen to None is hands = absurd (let no : None ≡ Some to = hands in cc)
-idle_hands terms at seen to (Some connect) is hands =
-    let there : Stage = connecting (record { at = used_more at connect.used; address = connect.address; proxy = proxy_at terms.place }) in
+idle_hands : (terms : Terms) (used : ℕ) (at : At) (seen : Sight) (to : Stage) (found : Option Connect) → connect_in terms.place (request_in seen) ≡ found →
+    tunnel_for terms.place used at found ≡ Some to → HandsOver terms (idle at) seen to
+idle_hands terms used at seen to None is hands = absurd (let no : None ≡ Some to = hands in cc)
+idle_hands terms used at seen to (Some connect) is hands =
+    let there : Stage = connecting (record { at = at; used = used + connect.used; address = connect.address; proxy = proxy_at terms.place }) in
     let parked : Used = server_parked at.parked seen in
     record {
       is_tunnel = let P : Stage → Type 0 = IsTunnel in subst P (some_same there to hands) tt;
       owes = refl;
-      ends = ap (λ l. or_leaves seen.closed (shut_server parked) l) (item_ends terms at.flow (request_in at seen) seen.now parked seen.closed connect is)
+      ends = ap (λ l. or_leaves seen.closed (shut_server parked) l) (item_ends terms at.flow (request_in seen) seen.now parked seen.closed connect is)
           ∙ leaves_nothing seen.closed (shut_server parked);
     }
 
 pub hands : (terms : Terms) (standing : Standing) (stage : flows.Stage) (seen : Sight) (to : Stage) → hands_by terms.place standing stage seen ≡ Some to →
     HandsOver terms stage seen to
-hands terms standing (idle at) seen to is = idle_hands terms at seen to (connect_in terms.place (request_in at seen)) refl is
+hands terms standing (idle at) seen to is = idle_hands terms standing.used.client at seen to (connect_in terms.place (request_in seen)) refl is
 hands terms standing (busy at flow (request_body given)) seen to is = absurd (let no : None ≡ Some to = is in cc)
 hands terms standing (busy at flow connection) seen to is = absurd (let no : None ≡ Some to = is in cc)
 hands terms standing (busy at flow (response_head side how)) seen to is = absurd (let no : None ≡ Some to = is in cc)
 hands terms standing (busy at flow (response_body side how)) seen to is = absurd (let no : None ≡ Some to = is in cc)
-hands terms standing (busy at flow (upgraded side)) seen to is = record {
+hands terms standing (busy at flow (upgraded server)) seen to is = record {
   is_tunnel = let P : Stage → Type 0 = IsTunnel in subst P (some_same _ to is) (upgrades_tunnel (is_websocket flow seen.closed) flow seen.now _);
   owes = refl;
   ends = leaves_nothing seen.closed [];
@@ -191,7 +191,7 @@ module _ (conv : ℕ) (client : Visitor) where
       let inner : Standing = inner_standing tunnel link since in
       let at : At = place_of inner.stage in
       stays_settled (inner_place tunnel link) inner prefix (record { stays = refl; owes_nothing = refl })
-      (ap (tunnel_for (inner_place tunnel link) at) (never_connects tunnel.address (Some link.side.server) tunnel.proxy (request_in at (sight_over inner prefix))))
+      (ap (tunnel_for (inner_place tunnel link) inner.used.client at) (never_connects tunnel.address (Some link.server) tunnel.proxy (request_in (sight_over inner prefix))))
   decided_settled tunnel link since prefix is_raw unclosed is = record { stays = refl; owes_nothing = refl }
 
   goes_settled : (tunnel : Tunnel) (link : Link) (since : Since) (prefix : List (Timed Event)) (closed : Bool) → client_closed prefix ≡ closed →
@@ -295,16 +295,16 @@ module _ (conv : ℕ) (client : Visitor) where
           (ap (drop ends.used) (sym (bytes_more Client prefix event open_still open_still)))
 
       server_by : DropMore ends.link.opened prefix event → client_closed prefix ≡ false → is_shut ends.link prefix ≡ false →
-          IsPrefixOf (bytes_of (Server ends.link.side.server) (drop ends.link.opened prefix)) (bytes_of (Server ends.link.side.server) (drop ends.link.opened (prefix ++ event ∷ [])))
+          IsPrefixOf (bytes_of (Server ends.link.server) (drop ends.link.opened prefix)) (bytes_of (Server ends.link.server) (drop ends.link.opened (prefix ++ event ∷ [])))
       server_by (behind is) open_still unshut =
-          let side : Side = Server ends.link.side.server in
+          let side : Side = Server ends.link.server in
           (piece_of side event.value, ap (bytes_of side) is ∙ bytes_more side (drop ends.link.opened prefix) event (open_behind ends.link.opened prefix open_still) unshut)
       server_by (none was is) open_still unshut =
-          let side : Side = Server ends.link.side.server in
+          let side : Side = Server ends.link.server in
           (bytes_of side [], ap (bytes_of side) is ∙ sym (ap (λ l. bytes_of side l ++ bytes_of side []) was))
 
-      down_by : (bytes longer : List ℕ) → IsPrefixOf bytes longer → IsPrefixOf (drop ends.link.side.used bytes) (drop ends.link.side.used longer)
-      down_by bytes longer (more, is) = begins_as _ _ _ (drops ends.link.side.used bytes more) (ap (drop ends.link.side.used) (sym is))
+      down_by : (bytes longer : List ℕ) → IsPrefixOf bytes longer → IsPrefixOf (drop ends.link.used bytes) (drop ends.link.used longer)
+      down_by bytes longer (more, is) = begins_as _ _ _ (drops ends.link.used bytes more) (ap (drop ends.link.used) (sym is))
 
       down_grows : client_closed prefix ≡ false → is_shut ends.link prefix ≡ false → IsPrefixOf (text_down ends prefix) (text_down ends (prefix ++ event ∷ []))
       down_grows open_still unshut = down_by _ _ (server_by (drop_more ends.link.opened prefix event) open_still unshut)
@@ -315,14 +315,14 @@ module _ (conv : ℕ) (client : Visitor) where
       raw_open false false owed is = (refl, refl)
 
       raw_grows : raw_look ends prefix ≡ NotYet →
-          IsPrefixOf (seen_of view (both_ways ends.link.side.server (text_up ends prefix) (text_down ends prefix)))
+          IsPrefixOf (seen_of view (both_ways ends.link.server (text_up ends prefix) (text_down ends prefix)))
           (seen_of view (owed_over (stack_chain conv client) (raw ends) (prefix ++ event ∷ [])))
       raw_grows is =
           let still_open = raw_open (client_closed prefix) (is_shut ends.link prefix) _ is in
           let longer : List (Timed Event) = prefix ++ event ∷ [] in
-          let texts : List Command = both_ways ends.link.side.server (text_up ends longer) (text_down ends longer) in
-          begins_on (both_ways ends.link.side.server (text_up ends prefix) (text_down ends prefix)) texts (texts ++ found (raw_look ends longer))
-          (both_grow ends.link.side.server _ _ _ _ (up_grows still_open.0) (down_grows still_open.0 still_open.1))
+          let texts : List Command = both_ways ends.link.server (text_up ends longer) (text_down ends longer) in
+          begins_on (both_ways ends.link.server (text_up ends prefix) (text_down ends prefix)) texts (texts ++ found (raw_look ends longer))
+          (both_grow ends.link.server _ _ _ _ (up_grows still_open.0) (down_grows still_open.0 still_open.1))
           (seen_begins [] texts (texts ++ found (raw_look ends longer)) (found (raw_look ends longer), refl))
 
     grows_at : (stage : Stage) (prefix : List (Timed Event)) (event : Timed Event) → (stack_chain conv client).look stage prefix ≡ NotYet →

@@ -98,10 +98,10 @@ module _ (conv : ℕ) where
 
   module _ (client : Visitor) where
     -- where HTTP hands over
-    tunnel_is : (place : Place) (standing : Standing) (at : At) (connect : Option Connect) → IsOf (terms_of conv client.address place) (OfConversation conv) standing.stage →
-        IsOfIt conv client (or_stays (http place standing) (tunnel_for place at connect))
-    tunnel_is place standing at None is = is
-    tunnel_is place standing at (Some connect) is = tt
+    tunnel_is : (place : Place) (standing : Standing) (used : ℕ) (at : At) (connect : Option Connect) → IsOf (terms_of conv client.address place) (OfConversation conv) standing.stage →
+        IsOfIt conv client (or_stays (http place standing) (tunnel_for place used at connect))
+    tunnel_is place standing used at None is = is
+    tunnel_is place standing used at (Some connect) is = tt
 
     upgrades_is : (is : Bool) (flow : Flow) (moment : ℕ) (ends : TunnelEnds) → flow.id.conv ≡ conv → ends.flow ≡ Some flow → IsOfIt conv client (upgrades is flow moment ends)
     upgrades_is true flow moment ends is same = is
@@ -109,7 +109,7 @@ module _ (conv : ℕ) where
 
     hands_is : (place : Place) (standing : Standing) (stage : flows.Stage) (seen : Sight) → IsOf (terms_of conv client.address place) (OfConversation conv) standing.stage →
         IsOf (terms_of conv client.address place) (OfConversation conv) stage → IsOfIt conv client (or_stays (http place standing) (hands_by place standing stage seen))
-    hands_is place standing (idle at) seen is here = tunnel_is place standing at (connect_in place (request_in at seen)) is
+    hands_is place standing (idle at) seen is here = tunnel_is place standing standing.used.client at (connect_in place (request_in seen)) is
     hands_is place standing (busy at flow (request_body given)) seen is here = is
     hands_is place standing (busy at flow connection) seen is here = is
     hands_is place standing (busy at flow (response_head side how)) seen is here = is
@@ -183,13 +183,13 @@ module _ (conv : ℕ) where
     looks (undecided tunnel link since) prefix is =
         let shut : Bool = is_shut link prefix in
         let closed : Bool = client_closed prefix in
-        tunnel_named (closed || shut) (closes_all link.side.server shut closed) (closes_named (ByServer link.side.server shut) closed)
+        tunnel_named (closed || shut) (closes_all link.server shut closed) (closes_named (ByServer link.server shut) closed)
     looks (raw ends) prefix is =
         let closed : Bool = client_closed prefix in
         let shut : Bool = is_shut ends.link prefix in
-        let closes : List Command = closes_all ends.link.side.server shut closed in
+        let closes : List Command = closes_all ends.link.server shut closed in
         tunnel_named (closed || shut) (finished_flow ends.flow ++ closes)
-        (named_append conv (finished_flow ends.flow) closes (finished_named ends.flow is) (closes_named (ByServer ends.link.side.server shut) closed))
+        (named_append conv (finished_flow ends.flow) closes (finished_named ends.flow is) (closes_named (ByServer ends.link.server shut) closed))
     looks (socket ends flow frames) prefix is = frames_named (socket_terms client.key ends flow) frames is
     looks over prefix is = tt
 
@@ -229,23 +229,23 @@ module _ (conv : ℕ) where
     IsLedOf None = ⊤
     IsLedOf (Some from) = from.flow.id.conv ≡ conv
 
-    led_is_by : (place : Place) (stage : flows.Stage) → IsOf (terms_of conv client.address place) (OfConversation conv) stage → IsLedOf (led_by stage)
-    led_is_by place (idle at) is = tt
-    led_is_by place (busy at flow (request_body given)) is = tt
-    led_is_by place (busy at flow connection) is = is
-    led_is_by place (busy at flow (response_head side how)) is = tt
-    led_is_by place (busy at flow (response_body side how)) is = tt
-    led_is_by place (busy at flow (upgraded side)) is = tt
-    led_is_by place (busy at flow given_head) is = tt
-    led_is_by place (busy at flow given_body) is = tt
-    led_is_by place (next at) is = tt
-    led_is_by place flows.over is = tt
+    led_is_by : (place : Place) (used : ℕ) (stage : flows.Stage) → IsOf (terms_of conv client.address place) (OfConversation conv) stage → IsLedOf (led_by used stage)
+    led_is_by place used (idle at) is = tt
+    led_is_by place used (busy at flow (request_body given)) is = tt
+    led_is_by place used (busy at flow connection) is = is
+    led_is_by place used (busy at flow (response_head side how)) is = tt
+    led_is_by place used (busy at flow (response_body side how)) is = tt
+    led_is_by place used (busy at flow (upgraded side)) is = tt
+    led_is_by place used (busy at flow given_head) is = tt
+    led_is_by place used (busy at flow given_body) is = tt
+    led_is_by place used (next at) is = tt
+    led_is_by place used flows.over is = tt
 
-    led_is : (place : Place) (stage : flows.Stage) → IsOf (terms_of conv client.address place) (OfConversation conv) stage → IsLedOf (led_at place stage)
-    led_is places.Regular stage is = tt
-    led_is (places.Upstream proxy) stage is = tt
-    led_is (places.Fixed address side None) stage is = tt
-    led_is (places.Fixed address side (Some proxy)) stage is = led_is_by (places.Fixed address side (Some proxy)) stage is
+    led_is : (place : Place) (standing : Standing) → IsOf (terms_of conv client.address place) (OfConversation conv) standing.stage → IsLedOf (led_at place standing)
+    led_is places.Regular standing is = tt
+    led_is (places.Upstream proxy) standing is = tt
+    led_is (places.Fixed address side None) standing is = tt
+    led_is (places.Fixed address side (Some proxy)) standing is = led_is_by (places.Fixed address side (Some proxy)) standing.used.client standing.stage is
 
     http_turns : (led : Option Dialling) (place : Place) (standing : Standing) (prefix : List (Timed Event)) (answer : Timed Reply) (value : Reply) → IsLedOf led →
         IsOfIt conv client (http place standing) → IsNamedTurn (turn_http conv client led place standing prefix answer value)
@@ -259,7 +259,7 @@ module _ (conv : ℕ) where
 
     turns : (stage : Stage) (prefix : List (Timed Event)) (answer : Timed Reply) → IsOfIt conv client stage →
         AllNamed conv ((stack_chain conv client).turn stage prefix answer).owed × IsOfIt conv client ((stack_chain conv client).turn stage prefix answer).stage
-    turns (http place standing) prefix answer is = http_turns (led_at place standing.stage) place standing prefix answer answer.value (led_is place standing.stage is) is
+    turns (http place standing) prefix answer is = http_turns (led_at place standing) place standing prefix answer answer.value (led_is place standing is) is
     turns (connecting tunnel) prefix answer is = dial_turns tunnel prefix answer.value answer.moment
     turns (reaching goal link since) prefix answer is = (tt, is)
     turns (undecided tunnel link since) prefix answer is = (tt, tt)

@@ -8,7 +8,8 @@ use Rattle.px_event.specs.declared.reply.Reply.{Reply}
 use Rattle.px_event.specs.Chain.{Chain, Timed}
 use Rattle.px_event.specs.Layer.{Move}
 use Rattle.px_event.specs.Stands.{StandsAt}
-use Rattle.px_stream.specs.Sequence.{first_of}
+use Rattle.px_chain.specs.Chain.{begin}
+use Rattle.px_chain.specs.Stages.{idle}
 use Rattle.px_stack.specs.declared.child.Child.{Child}
 use Rattle.px_stack.specs.declared.child.Child.TheVariants as children
 use Rattle.px_stack.specs.declared.stack.Stack.{Stack}
@@ -27,7 +28,7 @@ chain_of made = stack_chain made.conv (visitor_of made)
 
 -- where it starts: one that was made has HTTP
 abbrev pub start_by : Child → Stage
-start_by (children.Http flows) = http flows.value.stream.terms.place (first_of flows.value.stream)
+start_by (children.Http flows) = http flows.value.stream.terms.place (begin (idle flows.value.stream.at))
 start_by child = over
 
 abbrev pub start_of : Stack → Stage

@@ -16,7 +16,7 @@ use Rattle.px_relay.specs.declared.layer.WsLayer.{WsLayer}
 use Rattle.px_relay.specs.Chain.{look as frames_look}
 use Rattle.px_relay.specs.Stages.{Stage as Frames, holding, over as frames_over, relaying}
 use Rattle.px_relay.specs.Stands.{awaited_in, awaits as frames_awaits}
-use Rattle.px_stream.specs.StateLaws.{awaits_what_it_asks}
+use Rattle.px_stream.proofs.StateLaws.{awaits_what_it_asks}
 use Rattle.px_stack.specs.declared.child.Child.{Child}
 use Rattle.px_stack.specs.declared.child.Child.TheVariants as children
 use Rattle.px_stack.specs.declared.stack.Stack.{Stack}

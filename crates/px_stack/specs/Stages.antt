@@ -5,7 +5,7 @@ use Rattle.px_message.specs.declared.address.Address.{Address}
 use Rattle.px_message.specs.declared.flow.Flow.{Flow}
 use Rattle.px_exchange.specs.declared.place.Place.{Place}
 use Rattle.px_chain.specs.Sights.{Standing}
-use Rattle.px_chain.specs.Stages.{At, ServerSide}
+use Rattle.px_chain.specs.Stages.{At}
 use Rattle.px_chain.specs.Streams.{Since}
 use Rattle.px_relay.specs.Stages.{Stage as Frames}
 
@@ -15,17 +15,19 @@ pub record Visitor : Type 0 where
   pub address : Option Address
   pub key : List ℕ
 
--- A CONNECT: where in its conversation it stands, behind its head, where it asks for a tunnel to, and the proxy through which that is
--- reached, if there is one.
+-- A CONNECT: where in its conversation it stands, how many of the client's bytes were used up to the end of its head, where it asks for a
+-- tunnel to, and the proxy through which that is reached, if there is one.
 pub record Tunnel : Type 0 where
   pub at : At
+  pub used : ℕ
   pub address : Address
   pub proxy : Option Address
 
 -- A server's side that is connected: its number and how many of its bytes were used, and how many events had come when it was connected.
 -- It is heard in the events behind those.
 pub record Link : Type 0 where
-  pub side : ServerSide
+  pub server : ℕ
+  pub used : ℕ
   pub opened : ℕ
 
 -- A tunnel's two ends: how many of the client's bytes were used before it, and the server's side. It may have been a flow.
@@ -34,9 +36,10 @@ pub record Ends : Type 0 where
   pub link : Link
   pub flow : Option Flow
 
--- A flow that stands where its server is dialled: where in its conversation.
+-- A flow that stands where its server is dialled: where in its conversation, and how many of the client's bytes were used up to its end.
 pub record Dialling : Type 0 where
   pub at : At
+  pub used : ℕ
   pub flow : Flow
 
 -- What a proxy is asked to let through: a tunnel of the client, or a flow whose requests go to this place.

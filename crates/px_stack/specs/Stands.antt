@@ -17,9 +17,8 @@ use Rattle.px_relay.specs.declared.layer.WsLayer.{WsLayer}
 use Rattle.px_relay.specs.Sights.{no_rests as nothing_left}
 use Rattle.px_relay.specs.Stages.{Stage as Frames}
 use Rattle.px_relay.specs.Stands.{IsIn}
-use Rattle.px_stream.specs.Anywhere.{OpensInTime}
-use Rattle.px_stream.specs.Sequence.{IsInSequence}
-use Rattle.px_stream.specs.Through.{IsDialling}
+use Rattle.px_stream.specs.Anywhere.{IsInSequence, OpensInTime}
+use Rattle.px_stream.specs.Tells.{IsDialling}
 use Rattle.px_tunnel.specs.Reaching.{HasHeard}
 use Rattle.px_tunnel.specs.Stands.{has_ended, rests_of, server_of}
 use Rattle.px_tunnel.specs.Tunnel.{no_rests}
@@ -48,29 +47,29 @@ IsInFlows conv client place flows standing prefix = IsInSequence (terms_of conv 
 
 -- the numbers that follow, where it leads and what the client has sent behind it
 pub record IsOpening (tunnel : Tunnel) (prefix : List (Timed Event)) (kept : Opening) : Type 0 where
-  pub flow : kept.numbers.flow ≡ tunnel.at.flow
-  pub server : kept.numbers.server ≡ tunnel.at.dials
+  pub flow : kept.flow ≡ tunnel.at.flow
+  pub dials : kept.dials ≡ tunnel.at.dials
   pub address : kept.address ≡ tunnel.address
   pub proxy : kept.proxy ≡ tunnel.proxy
   pub rest : kept.rest ≡ opening_text tunnel prefix
   pub few : tunnel.at.flow < 1000000
-  pub used : tunnel.at.used ≤ length (bytes_of Client prefix)
+  pub used : tunnel.used ≤ length (bytes_of Client prefix)
 
 -- its server is connected: it is the last that was dialled, and no flow has dialled it
 pub record IsOpened (tunnel : Tunnel) (link : Link) (since : Since) (prefix : List (Timed Event)) (kept : Opening) (server : ℕ) : Type 0 where
   pub opening : IsOpening tunnel prefix kept
-  pub same : server ≡ link.side.server
-  pub last : tunnel.at.dials ≡ link.side.server + 1
-  pub dials : link.side.server ≤ tunnel.at.flow
+  pub same : server ≡ link.server
+  pub last : tunnel.at.dials ≡ link.server + 1
+  pub dials : link.server ≤ tunnel.at.flow
   pub opened : link.opened ≤ length prefix
   pub come : since.events ≤ length prefix
-  pub used : link.side.used ≤ length (bytes_of (Server link.side.server) (drop link.opened prefix))
+  pub used : link.used ≤ length (bytes_of (Server link.server) (drop link.opened prefix))
 
 -- another proxy is asked for it; whether the client has closed
 pub record IsAskedFor (tunnel : Tunnel) (link : Link) (prefix : List (Timed Event)) (kept : Opening) (closed : Bool) : Type 0 where
   pub opening : IsOpening tunnel prefix kept
-  pub last : tunnel.at.dials ≡ link.side.server + 1
-  pub dials : link.side.server ≤ tunnel.at.flow
+  pub last : tunnel.at.dials ≡ link.server + 1
+  pub dials : link.server ≤ tunnel.at.flow
   pub client : closed ≡ client_closed prefix
 
 -- where a side is parked, it was connected before the client closed
@@ -83,9 +82,10 @@ pub record IsLedOn (conv : ℕ) (client : Visitor) (place : Place) (from : Diall
   pub at : At
   pub stage : standing.stage ≡ busy at from.flow connection
   pub from_is : from.at ≡ unparked at
+  pub used_is : from.used ≡ standing.used.client
   pub there : IsInFlows conv client place flows standing prefix
   pub in_time : OpensInTime at.parked standing.opened prefix
-  pub dialled : link.side.server ≡ from.at.dials
+  pub dialled : link.server ≡ from.at.dials
   -- the answer to its dial is awaited
   pub waits : IsDialling flows.stream.phase
 
@@ -96,13 +96,13 @@ IsGoal conv client goal link prefix kept = ⊥
 
 -- a tunnel has handed on all that has come, and no side has closed
 pub record IsRelay (ends : TunnelEnds) (prefix : List (Timed Event)) (kept : Relay) : Type 0 where
-  pub same : kept.server ≡ ends.link.side.server
-  pub server : server_of kept.tunnel ≡ ends.link.side.server
+  pub same : kept.server ≡ ends.link.server
+  pub server : server_of kept.tunnel ≡ ends.link.server
   pub rests : rests_of kept.tunnel ≡ no_rests
   pub goes_on : has_ended kept.tunnel ≡ false
   pub flow : kept.flow ≡ ends.flow
   pub used : ends.used ≤ length (bytes_of Client prefix)
-  pub side_used : ends.link.side.used ≤ length (bytes_of (Server ends.link.side.server) (drop ends.link.opened prefix))
+  pub side_used : ends.link.used ≤ length (bytes_of (Server ends.link.server) (drop ends.link.opened prefix))
   pub opened : ends.link.opened ≤ length prefix
 
 -- a WebSocket's layer stands at its stage, in what is seen of the two sides
@@ -110,7 +110,7 @@ pub record IsFraming (key : List ℕ) (ends : TunnelEnds) (flow : Flow) (frames 
   pub there : IsIn (socket_terms key ends flow) layer frames (socket_sight ends prefix)
   pub rests : layer.rests ≡ nothing_left
   pub used : ends.used ≤ length (bytes_of Client prefix)
-  pub side_used : ends.link.side.used ≤ length (bytes_of (Server ends.link.side.server) (drop ends.link.opened prefix))
+  pub side_used : ends.link.used ≤ length (bytes_of (Server ends.link.server) (drop ends.link.opened prefix))
   pub opened : ends.link.opened ≤ length prefix
 
 -- ---- by the stage
@@ -133,12 +133,12 @@ pub record IsConnecting (tunnel : Tunnel) (prefix : List (Timed Event)) (child :
 pub record IsReaching (conv : ℕ) (client : Visitor) (goal : Goal) (link : Link) (since : Since) (prefix : List (Timed Event)) (child : Child) : Type 0 where
   pub kept : Reaching
   pub is : child ≡ children.Reaching kept
-  pub server : kept.server ≡ link.side.server
+  pub server : kept.server ≡ link.server
   pub before : kept.closed_before ≡ closed_before link prefix
   pub opened : link.opened ≤ length prefix
   pub come : since.events ≤ length prefix
-  pub heard : HasHeard kept.asked (text_of link.side.server (drop link.opened prefix))
-  pub unshut : closed_of link.side.server (drop link.opened prefix) ≡ false
+  pub heard : HasHeard kept.asked (text_of link.server (drop link.opened prefix))
+  pub unshut : closed_of link.server (drop link.opened prefix) ≡ false
   pub waiting : IsGoal conv client goal link prefix kept.goal
 
 pub record IsUndecided (tunnel : Tunnel) (link : Link) (since : Since) (prefix : List (Timed Event)) (child : Child) : Type 0 where

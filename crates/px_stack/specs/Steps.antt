@@ -29,8 +29,7 @@ use Rattle.px_relay.specs.declared.layer.WsLayer.{WsLayer}
 use Rattle.px_relay.specs.Chain.{begins_at}
 use Rattle.px_relay.specs.Stages.{relaying}
 use Rattle.px_relay.specs.Stands.{is_over as has_ended_in}
-use Rattle.px_stream.specs.Left.{sequence_left}
-use Rattle.px_stream.specs.Through.{led_to}
+use Rattle.px_stream.specs.Tells.{led_to, sequence_left}
 use Rattle.px_tunnel.specs.declared.tunnel.RawTunnel.{RawTunnel}
 use Rattle.px_tunnel.specs.declared.upstream.UpstreamTunnel.{UpstreamTunnel}
 use Rattle.px_tunnel.specs.Reaching.{HasHeard}
@@ -78,14 +77,14 @@ sides_closed server event = sides_by server (closes (Server server) event) (clos
 
 -- what was left of both sides is what a tunnel owes there, and these are closed
 pub record MayRelay (ends : TunnelEnds) (prefix : List (Timed Event)) (sides : Sides) (rests : Rests) (flow : Option Flow) : Type 0 where
-  pub server : sides.server ≡ ends.link.side.server
+  pub server : sides.server ≡ ends.link.server
   pub shut : sides.shut ≡ is_shut ends.link prefix
   pub closed : sides.closed ≡ client_closed prefix
   pub up : rests.client ≡ text_up ends prefix
   pub down : rests.server ≡ text_down ends prefix
   pub same_flow : flow ≡ ends.flow
   pub used : ends.used ≤ length (bytes_of Client prefix)
-  pub side_used : ends.link.side.used ≤ length (bytes_of (Server ends.link.side.server) (drop ends.link.opened prefix))
+  pub side_used : ends.link.used ≤ length (bytes_of (Server ends.link.server) (drop ends.link.opened prefix))
   pub opened : ends.link.opened ≤ length prefix
 
 abbrev pub Relays : Sides → Rests → Option Flow → Child → List Command → Type 0
@@ -140,9 +139,9 @@ pub record MayDecide (tunnel : Tunnel) (link : Link) (since : Since) (prefix : L
 
 -- the server is the last that was dialled, and no flow has dialled it
 pub record IsFewDials (kept : Opening) (server : ℕ) : Type 0 where
-  pub few : kept.numbers.flow < 1000000
-  pub last : kept.numbers.server ≡ server + 1
-  pub dials : server ≤ kept.numbers.flow
+  pub few : kept.flow < 1000000
+  pub last : kept.dials ≡ server + 1
+  pub dials : server ≤ kept.flow
 
 abbrev pub Decides : ℕ → Visitor → Opening → ℕ → List ℕ → ℕ → Child → List Command → Type 0
 Decides conv client kept server rest moment next more = (tunnel : Tunnel) (link : Link) (since : Since) (prefix : List (Timed Event)) →
@@ -190,7 +189,7 @@ HearsGoal conv client before after moment event = (goal : Goal) (link : Link) (p
 
 -- its answer was read, over a prefix at this moment: what came of the server behind its head, or whether its side closed
 pub record MayGoOn (conv : ℕ) (client : Visitor) (goal : Goal) (link : Link) (since : Since) (prefix : List (Timed Event)) (server : ℕ) (kept : KeptGoal) (moment : ℕ) : Type 0 where
-  pub same : server ≡ link.side.server
+  pub same : server ≡ link.server
   pub opened : link.opened ≤ length prefix
   pub come : since.events ≤ length prefix
   pub waiting : IsGoal conv client goal link prefix kept
@@ -199,13 +198,13 @@ pub record MayGoOn (conv : ℕ) (client : Visitor) (goal : Goal) (link : Link) (
 pub record IsLetThrough (link : Link) (prefix : List (Timed Event)) (rest : List ℕ) : Type 0 where
   pub used : ℕ
   pub answer : answer_of link prefix ≡ granted used
-  pub unshut : closed_of link.side.server (drop link.opened prefix) ≡ false
-  pub rest_is : rest ≡ drop used (text_of link.side.server (drop link.opened prefix))
+  pub unshut : closed_of link.server (drop link.opened prefix) ≡ false
+  pub rest_is : rest ≡ drop used (text_of link.server (drop link.opened prefix))
 
 -- whether its side closed, and whether the client had closed before it was connected
 pub record IsTurnedAway (link : Link) (prefix : List (Timed Event)) (shut before : Bool) : Type 0 where
   pub answer : answer_of link prefix ≡ refused
-  pub shut_is : shut ≡ closed_of link.side.server (drop link.opened prefix)
+  pub shut_is : shut ≡ closed_of link.server (drop link.opened prefix)
   pub before_is : before ≡ closed_before link prefix
 
 abbrev pub LetsThrough : ℕ → Visitor → ℕ → KeptGoal → List ℕ → ℕ → Child → List Command → Type 0
@@ -231,9 +230,9 @@ pub record CanGoOn (server : ℕ) (kept : KeptGoal) (rest : List ℕ) (moment : 
 
 -- these are the server's bytes behind the proxy's head, and its side has not closed
 pub record IsBehind (link : Link) (used : ℕ) (prefix : List (Timed Event)) (rest : List ℕ) : Type 0 where
-  pub unshut : closed_of link.side.server (drop link.opened prefix) ≡ false
+  pub unshut : closed_of link.server (drop link.opened prefix) ≡ false
   pub rest_is : rest ≡ text_behind link used prefix
-  pub within : used ≤ length (text_of link.side.server (drop link.opened prefix))
+  pub within : used ≤ length (text_of link.server (drop link.opened prefix))
 
 -- the flow goes on
 abbrev pub flow_reached : Place → Dialling → Link → ℕ → Since → List (Timed Event) → Stage
@@ -246,8 +245,8 @@ pub record LeadsThere (conv : ℕ) (client : Visitor) (next : Child) (more owed 
 
 abbrev pub Leads : List ℕ → Box HttpConv → List ℕ → ℕ → Child → List Command → Type 0
 Leads key flows rest moment next more = (conv : ℕ) (client : Visitor) (place : Place) (from : Dialling) (link : Link) (since : Since) (prefix : List (Timed Event)) (used : ℕ) →
-    client.key ≡ key → MayGoOn conv client (a_flow place from) link since prefix link.side.server (goals.Flow flows) moment → IsBehind link used prefix rest →
-    LeadsThere conv client next more (connected_owes place from.flow link.side.server) (flow_reached place from link used since prefix) prefix
+    client.key ≡ key → MayGoOn conv client (a_flow place from) link since prefix link.server (goals.Flow flows) moment → IsBehind link used prefix rest →
+    LeadsThere conv client next more (connected_owes place from.flow link.server) (flow_reached place from link used since prefix) prefix
 
 -- and it may, somewhere
 pub record CanReach (flows : Box HttpConv) (rest : List ℕ) (moment : ℕ) : Type 0 where
@@ -259,7 +258,7 @@ pub record CanReach (flows : Box HttpConv) (rest : List ℕ) (moment : ℕ) : Ty
   pub since : Since
   pub prefix : List (Timed Event)
   pub used : ℕ
-  pub may : MayGoOn conv client (a_flow place from) link since prefix link.side.server (goals.Flow flows) moment
+  pub may : MayGoOn conv client (a_flow place from) link since prefix link.server (goals.Flow flows) moment
   pub behind : IsBehind link used prefix rest
 
 -- It is refused: the flow ends by that, with the proxy's side.

@@ -7,15 +7,15 @@ use px_event::{Ask, Layer};
 use px_http::HttpConv;
 use px_message::{Address, Flow};
 use px_relay::WsLayer;
-use px_stream::Numbers;
 use px_text::Bytes;
 use px_tunnel::{RawTunnel, UpstreamTunnel};
 
-/// A CONNECT that was read: the numbers of the flow and of the server that come next, where it asks for a tunnel to, the proxy through
-/// which that is reached, if there is one, and what the client has sent behind it.
+/// A CONNECT that was read: the number of the flow that comes next, how many servers were dialled, which is the number of the next one,
+/// where it asks for a tunnel to, the proxy through which that is reached, if there is one, and what the client has sent behind it.
 #[derive(Drop)]
 pub struct Opening {
-    pub numbers: Numbers,
+    pub flow: u32,
+    pub dials: u32,
     pub address: Address,
     pub proxy: Option<Address>,
     pub rest: Bytes,
@@ -92,7 +92,7 @@ impl Child {
         match self {
             Child::Http(http) => http.waiting(),
             Child::Connecting { opening, .. } => Some(Ask::Dial {
-                server: opening.numbers.server,
+                server: opening.dials,
             }),
             Child::Socket(layer) => layer.waiting(),
             Child::Reaching(_) | Child::Undecided { .. } | Child::Raw(_) | Child::Over => None,

@@ -3,8 +3,7 @@ ghost use Rattle.std.specs.Prelude.{◌≡◌, ◌≤◌, ℕ, List, Some, None,
 ghost use Rattle.rand_chacha.specs.ChaCha.{key_of};
 ghost use Rattle.px_event.specs.Layer.{AsksOnly};
 ghost use Rattle.px_event.specs.declared.command.Command.TheVariants.{Dial as TheDial};
-ghost use Rattle.px_stream.specs.Rests.{phase_flow, phase_rest};
-ghost use Rattle.px_stream.specs.Sequence.{asked_tunnel, outcome_in, upgraded_side};
+ghost use Rattle.px_stream.specs.Tells.{asked_tunnel, outcome_in, phase_flow, side_rest, upgraded_side, uses_side};
 ghost use Rattle.px_exchange.specs.declared.ending.Used.TheVariants.{ByServer as TheServer};
 ghost use Rattle.px_stack.specs.Chain.{proxy_at};
 ghost use Rattle.px_stack.specs.Kept.{awaited_by, left_by, most_asked};
@@ -51,7 +50,7 @@ fn connect(http: Box<HttpConv>, out: &mut Vec<Command>) -> Result<Child, NoMemor
     let closed = http.client_closed();
     let opening = read_opening(http)?;
     out.push(Command::Dial {
-        server: opening.numbers.server,
+        server: opening.dials,
         address: first_hop(&opening)?,
         inside: None,
     })?;
@@ -71,18 +70,21 @@ fn first_hop(opening: &Opening) -> Result<Address, NoMemory>
 // What a CONNECT leaves.
 fn read_opening(http: Box<HttpConv>) -> Result<Opening, NoMemory>
     requires { outcome_in http.value.stream.phase ≡ Outcome.Connects }
-    ensures numbers { IfOk result (λ opening. opening.numbers ≡ http.value.stream.numbers) }
+    ensures flow { IfOk result (λ opening. opening.flow ≡ http.value.stream.at.flow) }
+    ensures dials { IfOk result (λ opening. opening.dials ≡ http.value.stream.at.dials) }
     ensures address { IfOk result (λ opening. asked_tunnel http.value.stream.phase ≡ Some opening.address) }
     ensures proxy { IfOk result (λ opening. opening.proxy ≡ proxy_at http.value.stream.terms.place) }
     ensures rest { IfOk result (λ opening. opening.rest ≡ http.value.stream.requests.rest) }
 {
-    let numbers = http.numbers();
+    let at = http.at();
+    let (flow, dials) = (at.flow, at.dials);
     let address = read_address(&http)?;
     let proxy = copy_proxy(http.place())?;
-    let (rests, flow) = Box::into_inner(http).into_rests()?;
-    drop(flow);
+    let (rests, upgraded) = Box::into_inner(http).into_rests()?;
+    drop(upgraded);
     Ok(Opening {
-        numbers,
+        flow,
+        dials,
         address,
         proxy,
         rest: rests.client,
@@ -152,7 +154,7 @@ fn go_on_as(
 // The sides on which it goes on.
 fn read_sides(http: &HttpConv) -> Sides
     requires { outcome_in http.now.stream.phase ≡ Outcome.Upgraded }
-    ensures server { upgraded_side http.now.stream.phase ≡ Some (TheServer result.server result.shut) }
+    ensures server { upgraded_side http.now.stream.phase http.now.stream.side ≡ Some (TheServer result.server result.shut) }
     ensures closed { result.closed ≡ http.now.stream.client_closed }
 {
     match http.upgraded() {

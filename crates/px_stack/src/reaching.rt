@@ -157,13 +157,15 @@ pub fn add(alloc: Global, opening: Opening, bytes: &Bytes) -> Result<Opening, No
     ensures { IfOk result (λ longer. longer ≡ record opening { rest = opening.rest ++ bytes.now }) }
 {
     let Opening {
-        numbers,
+        flow,
+        dials,
         address,
         proxy,
         rest,
     } = opening;
     Ok(Opening {
-        numbers,
+        flow,
+        dials,
         address,
         proxy,
         rest: rest.append(alloc, bytes.as_slice())?,

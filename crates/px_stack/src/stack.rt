@@ -2,6 +2,7 @@
 ghost use Rattle.std.specs.Prelude.{◌≡◌, ◌≤◌, ◌<◌, ◌+◌, ◌++◌, ℕ, Bool, List, [], Option, Some, None, IfOk, OnOk, false};
 ghost use Rattle.rand_chacha.specs.ChaCha.{key_of};
 ghost use Rattle.px_event.specs.Layer.{AsksOnly, MayAnswer};
+ghost use Rattle.px_chain.specs.Chain.{parked_of};
 ghost use Rattle.px_exchange.specs.Places.{place_of, terms_of};
 ghost use Rattle.px_exchange.specs.declared.ending.Used.TheVariants.{ByServer, NoServer};
 ghost use Rattle.px_http.specs.Stands.{HttpStands, awaits as http_awaits};
@@ -11,10 +12,7 @@ ghost use Rattle.px_stack.specs.Stack.{StackStands, awaits, start_of, visitor_of
 ghost use Rattle.px_stack.specs.Stands.{IsSomewhere};
 ghost use Rattle.px_stack.specs.Steps.{Adds, AsksFor, CanGoOn, CanReach, Decides, EndsRefused, GoesInside, IsFewDials, IsGoalSomewhere, IsPlain, Leads, LetsThrough, Relays, ResumesChild, TakesChild, Tells, TurnsAway};
 ghost use Rattle.px_stream.specs.Anywhere.{Begins, IsNew};
-ghost use Rattle.px_stream.specs.Left.{sequence_left};
-ghost use Rattle.px_stream.specs.Phases.{parked_at};
-ghost use Rattle.px_stream.specs.Sequence.{IsSideBelow};
-ghost use Rattle.px_stream.specs.Through.{IsDialling, dialled_flow, led_to};
+ghost use Rattle.px_stream.specs.Tells.{IsDialling, IsSideBelow, dialled_flow, led_to, sequence_left};
 ghost use Rattle.px_stack.specs.Stages.{Visitor};
 
 use crate::child::{Child, Goal, Opening, Reaching};
@@ -32,7 +30,6 @@ use px_exchange::texts::connected_text;
 use px_exchange::{Mode, Place};
 use px_http::HttpConv;
 use px_message::{Address, Fault};
-use px_stream::Numbers;
 use px_text::{Bytes, NoMemory};
 use px_tunnel::{UpstreamTunnel, connect_text};
 use std::alloc::Global;
@@ -308,7 +305,8 @@ impl Stack {
         ensures left { IfOk result (λ next. left_by next ≤ opened_left) }
     {
         let Opening {
-            numbers,
+            flow,
+            dials,
             address,
             proxy,
             rest: client,
@@ -318,7 +316,7 @@ impl Stack {
             side: Some(server),
             inside: proxy,
         };
-        let made = self.http_inside(place, numbers)?;
+        let made = self.http_inside(place, flow, dials)?;
         let rests = Rests {
             client,
             server: rest,
@@ -327,25 +325,17 @@ impl Stack {
         follow(self.means(), moment, http, out)
     }
 
-    // HTTP in a tunnel, at this place, which goes on with these numbers.
-    fn http_inside(&self, place: Place, numbers: Numbers) -> Result<Box<HttpConv>, NoMemory>
-        requires few { numbers.flow < 1000000 }
-        requires dials { numbers.server ≤ numbers.flow + 1 }
-        requires side { IsSideBelow place numbers.server }
+    // HTTP in a tunnel, at this place, whose first flow has this number, and which goes on with this server.
+    fn http_inside(&self, place: Place, flow: u32, dials: u32) -> Result<Box<HttpConv>, NoMemory>
+        requires few { flow < 1000000 }
+        requires dials { dials ≤ flow + 1 }
+        requires side { IsSideBelow place dials }
         ensures terms { IfOk result (λ http. http.value.stream.terms ≡ terms_of self.now.conv self.now.client place) }
-        ensures numbers { IfOk result (λ http. http.value.stream.numbers ≡ record { flow = numbers.flow; server = numbers.server }) }
-        ensures parked { IfOk result (λ http. http.value.stream.parked ≡ parked_at place) }
+        ensures at { IfOk result (λ http. http.value.stream.at ≡ record { flow = flow; dials = dials; parked = parked_of place }) }
         ensures new { IfOk result (λ http. IsNew http.value.stream) }
     {
         let client = copy_address(&self.client)?;
-        let http = HttpConv::new(
-            self.alloc,
-            self.conv,
-            client,
-            place,
-            numbers.flow,
-            numbers.server,
-        );
+        let http = HttpConv::new(self.alloc, self.conv, client, place, flow, dials)?;
         Ok(Box::new(self.alloc, http)?)
     }
 
@@ -431,7 +421,7 @@ impl Stack {
         ensures asks { IfOk result (λ next. AsksOnly (awaited_by next) out.old.items out.new.items) }
         ensures left { IfOk result (λ next. left_by next < left_by (Child.Http http)) }
     {
-        let server = http.numbers().server;
+        let server = http.at().dials;
         send(
             Side::Server(server),
             connect_text(self.alloc, address)?,
@@ -483,9 +473,9 @@ impl Stack {
         ensures asks { IfOk result (λ next. AsksOnly (awaited_by next) out.old.items out.new.items) }
         ensures left { IfOk result (λ next. left_by next ≤ opened_left) }
     {
-        let server = opening.numbers.server;
+        let server = opening.dials;
         let mut opening = opening;
-        opening.numbers.server = server + 1;
+        opening.dials = server + 1;
         if opening.proxy.is_some() {
             return self.ask_for(opening, server, closed, out);
         }
@@ -568,13 +558,13 @@ fn new_http(
     peer: &Address,
 ) -> Result<Box<HttpConv>, NoMemory>
     ensures terms { IfOk result (λ http. http.value.stream.terms ≡ terms_of conv (Some peer.now) (place_of mode.now)) }
-    ensures numbers { IfOk result (λ http. http.value.stream.numbers ≡ record { flow = 0; server = 0 }) }
+    ensures at { IfOk result (λ http. http.value.stream.at ≡ record { flow = 0; dials = 0; parked = parked_of (place_of mode.now) }) }
     ensures stands { IfOk result (λ http. HttpStands http.value http.value [] []) }
     ensures free { IfOk result (λ http. awaited_by (Child.Http http) ≡ None) }
 {
     let place = mode.place()?;
     let client = Some(peer.try_clone()?);
-    let http = HttpConv::new(alloc, conv, client, place, 0, 0);
+    let http = HttpConv::new(alloc, conv, client, place, 0, 0)?;
     Ok(Box::new(alloc, http)?)
 }
 

@@ -1,377 +1,320 @@
--- The calls of a flow: what its state stands for before, it stands for after, with one move more.
-use Rattle.std.proofs.Common.{◌≡◌, ℕ, ◌<◌, ◌≤◌, Bool, true, false, List, [], ◌∷◌, ◌++◌, Option, Some, None, refl, ap, sym, ◌∙◌, subst, append_assoc, drop}
-use Rattle.std.specs.Prelude.{⊤}
+-- The calls of a stream, wherever it stands: what it does is what the chain does there.
+use Rattle.std.proofs.Common.{◌≡◌, ℕ, ◌<◌, ◌≤◌, Bool, true, false, List, [], ◌∷◌, ◌++◌, Option, Some, None, Result, Ok, Err, refl, ap, sym, ◌∙◌, subst, append_assoc, arith}
+use Rattle.std.specs.Prelude.{⊤, IfOk, OnOk}
 use Rattle.std.proofs.lemmas.List.{append-nil}
 use Rattle.px_event.specs.declared.ask.Ask.{Ask}
 use Rattle.px_event.specs.declared.command.Command.{Command}
 use Rattle.px_event.specs.declared.event.Event.{Event}
 use Rattle.px_event.specs.declared.reply.Reply.{Reply}
-use Rattle.px_event.specs.Chain.{Timed, Look, NotYet, Asks, Ends, Turn}
-use Rattle.px_event.specs.Layer.{Took, Replied, IsSound, Goes, AsksOnly, MayAnswer}
-use Rattle.px_event.specs.View.{seen_of}
-use Rattle.px_event.proofs.Steps.{Takes, onward, past_end, Resumes, resume_goes, take_goes}
-use Rattle.px_read.specs.Marks.{asks, answers}
+use Rattle.px_event.specs.Chain.{Timed, Look, NotYet, Asks, Ends, Turn, found_with}
+use Rattle.px_event.specs.Laws.{owed_over}
+use Rattle.px_event.specs.Layer.{AsksOnly, MayAnswer}
+use Rattle.px_event.specs.View.{View, seen_of}
+use Rattle.px_event.proofs.Seen.{seen_append}
+use Rattle.px_event.proofs.Steps.{Takes, onward, past_end, Resumes}
+use Rattle.px_message.specs.declared.flow.Flow.{Flow}
+use Rattle.px_message.specs.declared.request.Request.{Request}
+use Rattle.px_message.specs.declared.response.Response.{Response}
+use Rattle.px_read.specs.Items.{Item, missing, part, complete, bad_head, bad_body}
+use Rattle.px_read.specs.Laws.{head_in}
+use Rattle.px_read.specs.Marks.{Mark, asks, answers}
 use Rattle.px_read.specs.Reader.{State, request, response}
+use Rattle.px_read.specs.declared.head.RequestHead.{RequestHead as ReadRequest}
 use Rattle.px_read.specs.declared.head.ResponseHead.{ResponseHead as ReadResponse}
+use Rattle.px_exchange.specs.declared.ending.Used.{Used}
+use Rattle.px_exchange.specs.declared.terms.Terms.{Terms}
+use Rattle.px_exchange.specs.Requests.{is_head}
+use Rattle.px_chain.specs.Chain.{IsOnward, behind, http_chain, is_sequence, look, pass, pass_body, passed, sequence, sight_past, so_far, stands, turn}
+use Rattle.px_chain.specs.Sights.{IsWithin, Sight, Standing, answers_in, request_in, server_in, server_parked, sight_behind, sight_over, sight_with}
+use Rattle.px_chain.specs.Stages.{At, Doing, Parked, Stage, busy, connection, given_body, given_head, idle, next, over, place_of, request_body, response_body, response_head, side_of, upgraded}
+use Rattle.px_chain.proofs.ChainLaws.{open_still}
+use Rattle.px_chain.proofs.SightLaws.{onward_from, sight_more, sight_passed, sight_turned, within_more, within_passed, within_stood}
+use Rattle.px_stream.specs.declared.link.Link.{Link}
 use Rattle.px_stream.specs.declared.phase.Asked.{Asked}
+use Rattle.px_stream.specs.declared.phase.Asked.TheVariants as asked
 use Rattle.px_stream.specs.declared.phase.Phase.{Phase}
 use Rattle.px_stream.specs.declared.phase.Phase.TheVariants as phase
 use Rattle.px_stream.specs.declared.phase.Wanted.{Wanted}
 use Rattle.px_stream.specs.declared.phase.Wanted.TheVariants as ready
 use Rattle.px_stream.specs.declared.stream.Stream.{Stream}
-use Rattle.px_stream.specs.declared.numbers.Numbers.{Numbers}
-use Rattle.px_exchange.specs.declared.ending.Used.{Used}
-use Rattle.px_exchange.specs.declared.place.Place.{Place}
-use Rattle.px_exchange.specs.declared.terms.Terms.{Terms}
-use Rattle.px_stream.specs.Calls.{Answers, Hears, IsSome, LooksOnce, MayHear, TakesEvent, TurnsTo, ended, hears}
-use Rattle.px_chain.specs.Chain.{IsOnward, alone, http_chain, is_alone, is_sequence, look, sequence, stands, turn}
-use Rattle.px_chain.specs.Sights.{Sight, Standing, sight_behind, sight_over, sight_with}
-use Rattle.px_chain.specs.Stages.{At, Doing, Parked, Stage, busy, connection, given_body, given_head, idle, next, over, request_body, response_body, response_head, side_of, upgraded}
-use Rattle.px_stream.specs.Heard.{LinkAgrees, ParkedAgrees, closes_client, ready_takes, requests_take, parked_takes}
-use Rattle.px_chain.proofs.ChainLaws.{settles}
-use Rattle.px_stream.specs.Led.{Turned}
-use Rattle.px_chain.specs.Left.{stage_left, stages_left}
-use Rattle.px_stream.specs.Left.{flow_left, sequence_left}
-use Rattle.px_stream.specs.Looking.{LookFound, MayLook}
-use Rattle.px_exchange.specs.Requests.{is_head}
-use Rattle.px_stream.specs.Sequence.{IsFew, IsInSequence, Stands, StandsInSequence, ahead_of, first_of, ready_onward, requests_onward}
-use Rattle.px_stream.specs.Anywhere.{ResumesAnywhere, Somewhere, TakesAnywhere}
-use Rattle.px_stream.specs.declared.link.Link.{Link as KeptLink}
-use Rattle.px_stream.specs.Stands.{HasParked, HasParkedFor, IsAsked, IsAt, IsIn, IsParked, IsReady, PhaseAt, awaits, is_last, used_in}
-use Rattle.px_stream.specs.StateLaws.{ends_last, ends_where_it_ends}
-use Rattle.px_stream.specs.Turns.{asked_leads, asked_owes, behind_asked, behind_ready, behind_parked}
-use Rattle.px_stream.proofs.HearLemmas.{ready_on}
-use Rattle.px_stream.proofs.MoveLemmas.{flow_falls, flow_measures, pass_few, resumes_asks, resumes_left, sequence_falls, sequence_few, sequence_measures, takes_asks, takes_left, turn_few}
-use Rattle.px_stream.proofs.ResumeLemmas.{led_alone, led_onward, onto, resumes_answer}
-use Rattle.px_stream.proofs.TakeLemmas.{takes_event}
-use Rattle.px_stream.proofs.TurnLemmas.{answered}
+use Rattle.px_stream.specs.Anywhere.{IsCounted, IsFew, IsInSequence, ResumesAnywhere, Somewhere, TakesAnywhere}
+use Rattle.px_stream.specs.Heard.{SideAgrees, closes_client, requests_take, side_takes}
+use Rattle.px_stream.specs.Looks.{LookFound, LookedAt, MayLook}
+use Rattle.px_stream.specs.Stands.{AskedSide, HasPlace, HasRequest, HasSide, IsAsked, IsAt, IsIn, IsLink, IsOpen, IsPlaced, IsReady, IsSome, LinkKeeps, PhaseAt, ReadsFinal, ReadsReturn, asked_in, awaited_in, awaits, content_in, is_last, parked_link, sent_on, stage_of, used_in}
+use Rattle.px_stream.proofs.StateLaws.{ends_last, ends_where_it_ends}
+use Rattle.px_stream.specs.Tells.{sequence_left}
+use Rattle.px_stream.specs.Turns.{Hears, LooksOnce, Shows, Turned, TurnsTo, asked_turn, is_dial, requests_behind, side_behind, used_at}
+use Rattle.px_stream.proofs.AskLemmas.{used_asked, used_of}
+use Rattle.px_stream.proofs.HearLemmas.{place_on, ready_on}
+use Rattle.px_stream.proofs.LookLemmas.{advanced, parked_used}
+use Rattle.px_stream.proofs.MoveLemmas.{pass_few, resumes_asks, resumes_left, sequence_few, takes_asks, takes_left}
+use Rattle.px_stream.proofs.TurnLemmas.{turn_asked, turned}
 
--- ---- what a flow that waits may hear, and look for
+-- ---- the calls
 
-module _ (seen : Sight) (requests : State) (sent : List ReadResponse) where
-  -- its readers are somewhere in the bytes of their sides
-  pub may_look : (stage : Stage) (looked : Wanted) → IsReady requests looked stage seen sent → MayLook looked requests
-  may_look (idle at) looked is = let P : Wanted → Type 0 = λ r. MayLook r requests in subst P (sym is.phase) tt
-  may_look (busy at flow (request_body given)) looked is =
-      let P : Wanted → Type 0 = λ r. MayLook r requests in
-      subst P (sym is.phase) (record { message = request; told = asks is.head ∷ is.marks; fed = drop at.used seen.client; closed = false; reads = is.reads })
-  may_look (busy at flow connection) looked is = let P : Wanted → Type 0 = λ r. MayLook r requests in subst P (sym is.phase) tt
-  may_look (busy at flow (response_head side how)) looked is =
-      let P : Wanted → Type 0 = λ r. MayLook r requests in
-      subst P (sym is.phase) (record {
-        asked_head = is_head flow.request.method;
-        number = side.server;
-        bytes = drop side.used seen.server;
-        shut = seen.shut;
-        sent = sent;
-        keeps = is.is_link.keeps;
-      })
-  may_look (busy at flow (response_body side how)) looked is =
-      let P : Wanted → Type 0 = λ r. MayLook r requests in
-      subst P (sym is.phase) (record {
-        message = response (is_head flow.request.method);
-        told = answers is.head ∷ is.marks;
-        fed = is.is_link.keeps.fed;
-        closed = seen.shut;
-        reads = is.is_link.keeps.reads;
-      })
-  may_look (busy at flow (upgraded side)) looked is = let P : Wanted → Type 0 = λ r. MayLook r requests in subst P (sym is.phase) tt
-  may_look (busy at flow given_head) looked is = let P : Wanted → Type 0 = λ r. MayLook r requests in subst P (sym is.phase) tt
-  may_look (busy at flow given_body) looked is = let P : Wanted → Type 0 = λ r. MayLook r requests in subst P (sym is.phase) tt
-  may_look (next at) looked is = let P : Wanted → Type 0 = λ r. MayLook r requests in subst P (sym is.phase) tt
-  may_look over looked is = let P : Wanted → Type 0 = λ r. MayLook r requests in subst P (sym is) tt
+-- It took this answer, and then looked once.
+pub record Answers (before after : Stream) (moment : ℕ) (reply : Reply) (found : Asked) (out longer : List Command) : Type 0 where
+  pub between : Stream
+  pub looked : Wanted
+  pub given : List Command
+  pub turns : TurnsTo before between moment reply found looked out given
+  pub looks : LooksOnce between after moment looked given longer
 
-  -- both say whether the server closed
-  agrees : (stage : Stage) (looked : Wanted) → IsReady requests looked stage seen sent → LinkAgrees looked
-  agrees (idle at) looked is = subst LinkAgrees (sym is.phase) tt
-  agrees (busy at flow (request_body given)) looked is = subst LinkAgrees (sym is.phase) tt
-  agrees (busy at flow connection) looked is = subst LinkAgrees (sym is.phase) tt
-  agrees (busy at flow (response_head side how)) looked is = let k = is.is_link.keeps in subst LinkAgrees (sym is.phase) (k.reads.closed ∙ sym k.closed)
-  agrees (busy at flow (response_body side how)) looked is = let k = is.is_link.keeps in subst LinkAgrees (sym is.phase) (k.reads.closed ∙ sym k.closed)
-  agrees (busy at flow (upgraded side)) looked is = subst LinkAgrees (sym is.phase) tt
-  agrees (busy at flow given_head) looked is = subst LinkAgrees (sym is.phase) tt
-  agrees (busy at flow given_body) looked is = subst LinkAgrees (sym is.phase) tt
-  agrees (next at) looked is = subst LinkAgrees (sym is.phase) tt
-  agrees over looked is = subst LinkAgrees (sym is) tt
+-- Wherever this answer leads, it may look there.
+abbrev pub MayTurn : Stream → ℕ → Reply → Asked → Type 0
+MayTurn before moment reply found = (between : Stream) (looked : Wanted) (out longer : List Command) → TurnsTo before between moment reply found looked out longer →
+    MayLook looked between.requests between.side
 
-  -- the client's reader was told of no close
-  open_reader : (stage : Stage) (looked : Wanted) → IsReady requests looked stage seen sent → is_last (phase.Ready looked) ≡ false → requests.closed ≡ false
-  open_reader (idle at) looked is goes = is.reads.closed
-  open_reader (busy at flow (request_body given)) looked is goes = is.reads.closed
-  open_reader (busy at flow connection) looked is goes = is.keeps.open_still
-  open_reader (busy at flow (response_head side how)) looked is goes = is.keeps.open_still
-  open_reader (busy at flow (response_body side how)) looked is goes = is.keeps.open_still
-  open_reader (busy at flow (upgraded side)) looked is goes = is.keeps.open_still
-  open_reader (busy at flow given_head) looked is goes = is.keeps.open_still
-  open_reader (busy at flow given_body) looked is goes = is.keeps.open_still
-  open_reader (next at) looked is goes = is.keeps.open_still
-  open_reader over looked is goes = absurd (let no : true ≡ false = ap (λ r. is_last (phase.Ready r)) (sym is) ∙ goes in cc)
+-- Its readers may hear this event, and then look.
+pub record MayHear (event : Event) (requests : State) (side : Option Link) (looked : Wanted) : Type 0 where
+  pub agrees : SideAgrees side
+  pub open_still : requests.closed ≡ false
+  pub looks : MayLook looked (requests_take event requests) (side_takes event side)
 
--- and so do those of the parked side
-parked_agrees_by : (place : Place) (parked : Option Parked) (seen : Sight) (kept : Option KeptLink) → IsParked place parked seen kept → ParkedAgrees kept
-parked_agrees_by place None seen None is = tt
-parked_agrees_by place None seen (Some kept) is = absurd is
-parked_agrees_by place (Some parked) seen None is = absurd is
-parked_agrees_by place (Some parked) seen (Some kept) is = ap (λ (s : State). s.closed) is.unread.responses ∙ sym is.unread.closed
+-- What it does with an event, where no answer is awaited: where it has ended nothing, and else it hears it and looks once.
+pub data TakesEvent (before after : Stream) (moment : ℕ) (event : Event) (out longer : List Command) : Type 0 where
+  ended : is_last before.phase ≡ true → after ≡ before → longer ≡ out → TakesEvent before after moment event out longer
+  hears : (looked : Wanted) (between : Stream) → before.phase ≡ phase.Ready looked → is_last (phase.Ready looked) ≡ false → Hears before between event →
+      LooksOnce between after moment looked out longer → TakesEvent before after moment event out longer
 
-none_agrees : (kept : Option KeptLink) → kept ≡ None → ParkedAgrees kept
-none_agrees kept is = subst ParkedAgrees (sym is) tt
+-- behind one list the rest is one
+pub same_tail : (xs ys zs : List Command) → xs ++ ys ≡ xs ++ zs → ys ≡ zs
+same_tail [] ys zs is = is
+same_tail (x ∷ xs) ys zs is = same_tail xs ys zs (let e : x ∷ (xs ++ ys) ≡ x ∷ (xs ++ zs) = is in cc)
 
-parked_agrees_for : (place : Place) (at : At) (doing : Doing) (seen : Sight) (kept : Option KeptLink) → HasParkedFor place at doing seen kept → ParkedAgrees kept
-parked_agrees_for place at (request_body given) seen kept is = parked_agrees_by place at.parked seen kept is
-parked_agrees_for place at connection seen kept is = parked_agrees_by place at.parked seen kept is
-parked_agrees_for place at (response_head side how) seen kept is = none_agrees kept is.none
-parked_agrees_for place at (response_body side how) seen kept is = none_agrees kept is.none
-parked_agrees_for place at (upgraded side) seen kept is = none_agrees kept is.none
-parked_agrees_for place at given_head seen kept is = parked_agrees_by place at.parked seen kept is
-parked_agrees_for place at given_body seen kept is = parked_agrees_by place at.parked seen kept is
+-- ---- from a stage in a sight to the walk that stopped there
 
--- the conversation goes on there
-abbrev pub IsLive : Stage → Type 0
-IsLive over = ⊥
-IsLive stage = ⊤
+module _ (made : Terms) (place : Standing) (prefix : List (Timed Event)) (seen : Sight) (same : sight_over place prefix ≡ seen) where
+  -- a state that is at the stage passed to, in what is left of the sight, is there
+  pub at_walked : (state : Stream) → IsWithin place prefix → IsIn made state (pass place.stage seen) (sight_past place.stage seen) → IsAt made state (passed place (sight_over place prefix)) prefix
+  at_walked state within is = record {
+    within = within_passed place prefix within;
+    is_in = subst (λ s. IsIn made state (pass place.stage (sight_over place prefix)) s) (sym (sight_passed place prefix))
+        (subst (λ s. IsIn made state (pass place.stage s) (sight_past place.stage s)) (sym same) is);
+  }
 
-pub parked_agrees : (place : Place) (stage : Stage) (seen : Sight) (kept : Option KeptLink) → IsLive stage → HasParked place stage seen kept → ParkedAgrees kept
-parked_agrees place (idle at) seen kept live is = parked_agrees_by place at.parked seen kept is
-parked_agrees place (busy at flow doing) seen kept live is = parked_agrees_for place at doing seen kept is
-parked_agrees place (next at) seen kept live is = parked_agrees_by place at.parked seen kept is
-parked_agrees place over seen kept live is = absurd live
+  abbrev Owed : Stage → Sight → List Command
+  Owed stage sees = so_far stage sees ++ found_with (behind stage sees) (look made stage sees)
 
--- so it does where something is looked for
-pub is_live : (requests : State) (looked : Wanted) (stage : Stage) (seen : Sight) (sent : List ReadResponse) → IsReady requests looked stage seen sent → is_last (phase.Ready looked) ≡ false → IsLive stage
-is_live requests looked (idle at) seen sent is goes = tt
-is_live requests looked (busy at flow doing) seen sent is goes = tt
-is_live requests looked (next at) seen sent is goes = tt
-is_live requests looked over seen sent is goes = let no : true ≡ false = ap (λ r. is_last (phase.Ready r)) (sym is) ∙ goes in cc
+  -- what is added behind what was owed is what is owed now
+  pub gives_walked : (view : View) (before more : List Command) → before ++ more ≡ Owed (pass place.stage seen) (sight_past place.stage seen) →
+      seen_of view before ++ seen_of view more ≡ seen_of view (owed_over (http_chain sequence made) place prefix)
+  gives_walked view before more owes =
+      sym (seen_append view before more)
+      ∙ ap (seen_of view) (owes ∙ (ap (λ s. Owed (pass place.stage s) (sight_past place.stage s)) (sym same)
+      ∙ ap (λ s. Owed (pass place.stage (sight_over place prefix)) s) (sym (sight_passed place prefix))))
 
-module _ (made : Terms) (before : Stream) (event : Event) (looked : Wanted) (live : before.phase ≡ phase.Ready looked) (goes : is_last (phase.Ready looked) ≡ false) where
-  hears_by : (l : Look Command) (stage : Stage) (seen : Sight) → look made stage seen ≡ l → PhaseAt l made before.requests before.phase stage seen → IsIn made before stage seen → MayHear event before.requests before.parked looked
-  hears_by NotYet stage seen waits (known, sent, same, there, gave) at =
+-- ---- what the readers may hear, and look for
+
+-- a side that holds such a link has it
+open_to : (P Q : Link → Type 0) → ((link : Link) → P link → Q link) → (side : Option Link) → IsOpen P side → IsOpen Q side
+open_to P Q goes None is = absurd is
+open_to P Q goes (Some link) is = goes link is
+
+may_look_by : (at : At) (looked : Wanted) (seen : Sight) (sent : List ReadResponse) (requests : State) (side : Option Link) → HasRequest (stage_of at looked) seen (content_in looked) requests →
+    HasSide (stage_of at looked) seen sent (content_in looked) side → MayLook looked requests side
+may_look_by at ready.Idle seen sent requests side reads has = tt
+may_look_by at (ready.RequestBody flow given body) seen sent requests side reads has =
+    record { message = request; told = asks reads.head ∷ reads.marks; fed = seen.client; closed = false; reads = reads.reads }
+may_look_by at (ready.Connection flow) seen sent requests side reads has = tt
+may_look_by at (ready.ResponseHead flow server) seen sent requests side reads has =
+    open_to (IsLink flow.request server seen sent []) _
+    (λ link is. record { asked_head = is_head flow.request.method; number = server; bytes = seen.server; shut = seen.shut; sent = sent; keeps = is }) side has
+may_look_by at (ready.ResponseBody flow server body) seen sent requests side reads has =
+    open_to (ReadsReturn flow.request server seen body) _
+    (λ link is. record { message = response (is_head flow.request.method); told = answers is.head ∷ is.marks; fed = is.is_link.fed; closed = seen.shut; reads = is.is_link.reads }) side has
+may_look_by at (ready.Upgraded flow server) seen sent requests side reads has = tt
+may_look_by at (ready.GivenHead flow) seen sent requests side reads has = tt
+may_look_by at (ready.GivenBody flow) seen sent requests side reads has = tt
+may_look_by at (ready.Connects address) seen sent requests side reads has = tt
+may_look_by at ready.Over seen sent requests side reads has = tt
+
+pub may_look : (at : At) (requests : State) (side : Option Link) (looked : Wanted) (stage : Stage) (seen : Sight) (sent : List ReadResponse) → IsReady at requests side looked stage seen sent → MayLook looked requests side
+may_look at requests side looked stage seen sent is =
+    may_look_by at looked seen sent requests side (subst (λ s. HasRequest s seen (content_in looked) requests) (sym is.is_stage) is.request)
+    (subst (λ s. HasSide s seen sent (content_in looked) side) (sym is.is_stage) is.has_side)
+
+parked_agrees : (parked : Option Parked) (seen : Sight) (side : Option Link) → side ≡ parked_link parked seen → SideAgrees side
+parked_agrees parked seen side is = subst SideAgrees (sym is) (by parked)
+  where
+    by : (parked : Option Parked) → SideAgrees (parked_link parked seen)
+    by None = tt
+    by (Some parked) = refl
+
+link_agrees : (message : Request) (server : ℕ) (seen : Sight) (sent : List ReadResponse) (told : List Mark) (side : Option Link) → IsOpen (IsLink message server seen sent told) side → SideAgrees side
+link_agrees message server seen sent told None is = absurd is
+link_agrees message server seen sent told (Some link) is = is.reads.closed ∙ sym is.closed
+
+return_agrees : (message : Request) (server : ℕ) (seen : Sight) (content : List ℕ) (side : Option Link) → IsOpen (ReadsReturn message server seen content) side → SideAgrees side
+return_agrees message server seen content None is = absurd is
+return_agrees message server seen content (Some link) is = is.is_link.reads.closed ∙ sym is.is_link.closed
+
+-- what is still to be told of the client, and of the side
+pub record MayHearMore (requests : State) (side : Option Link) : Type 0 where
+  pub open_still : requests.closed ≡ false
+  pub agrees : SideAgrees side
+
+hears_by : (at : At) (looked : Wanted) (seen : Sight) (sent : List ReadResponse) (requests : State) (side : Option Link) → is_last (phase.Ready looked) ≡ false →
+    HasRequest (stage_of at looked) seen (content_in looked) requests → HasSide (stage_of at looked) seen sent (content_in looked) side → MayHearMore requests side
+hears_by at ready.Idle seen sent requests side goes reads has = record { open_still = reads.closed; agrees = parked_agrees at.parked seen side has }
+hears_by at (ready.RequestBody flow given body) seen sent requests side goes reads has = record { open_still = reads.reads.closed; agrees = parked_agrees at.parked seen side has }
+hears_by at (ready.Connection flow) seen sent requests side goes reads has = record { open_still = reads.open_still; agrees = parked_agrees at.parked seen side has }
+hears_by at (ready.ResponseHead flow server) seen sent requests side goes reads has =
+    record { open_still = reads.open_still; agrees = link_agrees flow.request server seen sent [] side has }
+hears_by at (ready.ResponseBody flow server body) seen sent requests side goes reads has =
+    record { open_still = reads.open_still; agrees = return_agrees flow.request server seen body side has }
+hears_by at (ready.Upgraded flow server) seen sent requests side goes reads has = absurd (let no : true ≡ false = goes in cc)
+hears_by at (ready.GivenHead flow) seen sent requests side goes reads has = record { open_still = reads.open_still; agrees = parked_agrees at.parked seen side has }
+hears_by at (ready.GivenBody flow) seen sent requests side goes reads has = record { open_still = reads.open_still; agrees = parked_agrees at.parked seen side has }
+hears_by at (ready.Connects address) seen sent requests side goes reads has = absurd (let no : true ≡ false = goes in cc)
+hears_by at ready.Over seen sent requests side goes reads has = absurd (let no : true ≡ false = goes in cc)
+
+may_hear : (at : At) (requests : State) (side : Option Link) (looked : Wanted) (stage : Stage) (seen : Sight) (sent : List ReadResponse) → is_last (phase.Ready looked) ≡ false →
+    IsReady at requests side looked stage seen sent → MayHearMore requests side
+may_hear at requests side looked stage seen sent goes is =
+    hears_by at looked seen sent requests side goes (subst (λ s. HasRequest s seen (content_in looked) requests) (sym is.is_stage) is.request)
+    (subst (λ s. HasSide s seen sent (content_in looked) side) (sym is.is_stage) is.has_side)
+
+-- where a state that looks for something stands
+pub record LooksAt (made : Terms) (state : Stream) (looked : Wanted) (stage : Stage) (seen : Sight) : Type 0 where
+  pub waits : look made stage seen ≡ NotYet
+  pub sent : List ReadResponse
+  pub ready : IsReady state.at state.requests state.side looked stage seen sent
+  pub gave : so_far stage seen ≡ sent_on stage sent
+
+module _ (made : Terms) (state : Stream) (stage : Stage) (seen : Sight) where
+  abbrev Found : Look Command → Type 0
+  Found l = PhaseAt l made state.at state.requests state.side state.phase stage seen
+
+  looks_by : (looked : Wanted) → state.phase ≡ phase.Ready looked → is_last (phase.Ready looked) ≡ false → (l : Look Command) → look made stage seen ≡ l → Found l → LooksAt made state looked stage seen
+  looks_by looked live goes NotYet is (known, sent, same, there, gave) =
       let one : phase.Ready known ≡ phase.Ready looked = sym same ∙ live in
-      let same_ready : known ≡ looked = cc in
-      let P : Wanted → Type 0 = λ r. IsReady before.requests r stage seen sent in
-      let here : IsReady before.requests looked stage seen sent = subst P same_ready there in
-      record {
-        open_still = open_reader seen before.requests sent stage looked here goes;
-        agrees = agrees seen before.requests sent stage looked here;
-        parked_agrees = parked_agrees made.place stage seen before.parked (is_live before.requests looked stage seen sent here goes) at.parked;
-        looks = may_look (sight_with (side_of stage) seen event 0) (requests_take event before.requests) sent stage (ready_takes event looked)
-            (ready_on made seen event 0 stage before.requests looked sent before.numbers before.client_closed at.place waits here);
-      }
-  hears_by (Asks ask) stage seen waits (here, same, there) at = absurd (let e : phase.Asked here ≡ phase.Ready looked = sym same ∙ live in cc)
-  hears_by (Ends owed) stage seen waits (last, same, there) at =
-      absurd (let no : true ≡ false = sym (ends_last made stage seen before.requests last there) ∙ (ap is_last (sym same ∙ live) ∙ goes) in cc)
+      let same_looked : known ≡ looked = cc in
+      record { waits = is; sent = sent; ready = subst (λ r. IsReady state.at state.requests state.side r stage seen sent) same_looked there; gave = gave }
+  looks_by looked live goes (Asks ask) is (here, same, there) = absurd (let e : phase.Asked here ≡ phase.Ready looked = sym same ∙ live in cc)
+  looks_by looked live goes (Ends owed) is (last, same, there) =
+      absurd (let no : true ≡ false = sym (ends_last made stage seen state.requests state.side last there) ∙ (ap is_last (sym same ∙ live) ∙ goes) in cc)
 
-  pub may_hear : (stage : Stage) (seen : Sight) → IsIn made before stage seen → MayHear event before.requests before.parked looked
-  may_hear stage seen at = hears_by (look made stage seen) stage seen refl at.phase at
+  pub looks_at : (looked : Wanted) → state.phase ≡ phase.Ready looked → is_last (phase.Ready looked) ≡ false → IsIn made state stage seen → LooksAt made state looked stage seen
+  looks_at looked live goes is = looks_by looked live goes (look made stage seen) refl is.phase
 
-pub alone_hears : (before : Stream) (event : Event) → IsSound (Stands alone) before → (looked : Wanted) → before.phase ≡ phase.Ready looked → is_last (phase.Ready looked) ≡ false → MayHear event before.requests before.parked looked
-alone_hears before event (made, past, given, stands) looked live goes = may_hear made.terms before event looked live goes _ _ stands.place.is_in
+  asked_by : (found : Asked) → state.phase ≡ phase.Asked found → (l : Look Command) → look made stage seen ≡ l → Found l →
+      (ask : Command) × (look made stage seen ≡ Asks ask) × IsAsked made state.requests state.side found stage seen
+  asked_by found live NotYet is (known, sent, same, there, gave) = absurd (let e : phase.Ready known ≡ phase.Asked found = sym same ∙ live in cc)
+  asked_by found live (Asks ask) is (here, same, there) =
+      let e : phase.Asked here ≡ phase.Asked found = sym same ∙ live in
+      let same_asked : here ≡ found = cc in
+      (ask, is, subst (λ a. IsAsked made state.requests state.side a stage seen) same_asked there)
+  asked_by found live (Ends owed) is (last, same, there) = absurd (let e : phase.Ready last ≡ phase.Asked found = sym same ∙ live in cc)
 
-pub hears_anywhere : (before : Stream) (event : Event) → Somewhere before → (looked : Wanted) → before.phase ≡ phase.Ready looked → is_last (phase.Ready looked) ≡ false → MayHear event before.requests before.parked looked
-hears_anywhere before event (made, ahead, place, prefix, at) looked live goes = may_hear made before event looked live goes place.stage (sight_over place prefix) at.is_at.is_in
+  -- and where one that asked something does
+  pub asked_at : (found : Asked) → state.phase ≡ phase.Asked found → IsIn made state stage seen →
+      (ask : Command) × (look made stage seen ≡ Asks ask) × IsAsked made state.requests state.side found stage seen
+  asked_at found live is = asked_by found live (look made stage seen) refl is.phase
 
--- ---- from call to call
+-- ---- one look
 
--- the same look, from the same fields
-pub look_as : (terms terms_now : Terms) (numbers numbers_now : Numbers) (parked parked_now : Used) (looked looked_now : Wanted) (old old_now new : State) (moment moment_now : ℕ) (closed closed_now : Bool) (out longer : List Command) (is_now found_now : Phase) →
-    terms_now ≡ terms → numbers_now ≡ numbers → parked_now ≡ parked → looked_now ≡ looked → old_now ≡ old → moment_now ≡ moment → closed_now ≡ closed → found_now ≡ is_now →
-    LookFound terms_now numbers_now parked_now looked_now old_now new moment_now closed_now out longer found_now → LookFound terms numbers parked looked old new moment closed out longer is_now
-look_as terms terms_now numbers numbers_now parked parked_now looked looked_now old old_now new moment moment_now closed closed_now out longer is_now found_now same_terms same_numbers same_parked same_looked same_old same_moment same_closed same_phase seen =
-    let A : Terms → Type 0 = λ x. LookFound x numbers parked looked old new moment closed out longer is_now in
-    let B : Numbers → Type 0 = λ x. LookFound terms_now x parked looked old new moment closed out longer is_now in
-    let I : Used → Type 0 = λ x. LookFound terms_now numbers_now x looked old new moment closed out longer is_now in
-    let C : Wanted → Type 0 = λ x. LookFound terms_now numbers_now parked_now x old new moment closed out longer is_now in
-    let D : State → Type 0 = λ x. LookFound terms_now numbers_now parked_now looked_now x new moment closed out longer is_now in
-    let E : ℕ → Type 0 = λ x. LookFound terms_now numbers_now parked_now looked_now old_now new x closed out longer is_now in
-    let F : Bool → Type 0 = λ x. LookFound terms_now numbers_now parked_now looked_now old_now new moment_now x out longer is_now in
-    let G : Phase → Type 0 = λ x. LookFound terms_now numbers_now parked_now looked_now old_now new moment_now closed_now out longer x in
-    subst A same_terms (subst B same_numbers (subst I same_parked (subst C same_looked (subst D same_old (subst E same_moment (subst F same_closed (subst G same_phase seen)))))))
+-- Behind what was done the machine looked once: it is where the stage is passed, and gave what is owed there.
+pub record LookedIn (made : Terms) (before after : Stream) (stage : Stage) (seen : Sight) (sent : List ReadResponse) (out longer : List Command) : Type 0 where
+  pub more : List Command
+  pub grown : longer ≡ out ++ more
+  pub owes : sent_on stage sent ++ more ≡ so_far (pass stage seen) (sight_past stage seen)
+      ++ found_with (behind (pass stage seen) (sight_past stage seen)) (look made (pass stage seen) (sight_past stage seen))
+  pub is_in : IsIn made after (pass stage seen) (sight_past stage seen)
 
--- what is behind an event that was heard
-pub hears_then : (before heard after : Stream) (moment : ℕ) (event : Event) (looked now : Wanted) (out longer : List Command) →
-    heard.terms ≡ before.terms → heard.numbers ≡ before.numbers → heard.requests ≡ requests_take event before.requests → heard.client_closed ≡ closes_client event before.client_closed →
-    heard.parked ≡ parked_takes event before.parked → now ≡ ready_takes event looked → LooksOnce heard after moment now out longer → Hears before after moment event looked out longer
-hears_then before heard after moment event looked now out longer terms numbers requests client parked is once = record {
-  terms = once.terms ∙ terms;
-  numbers = once.numbers ∙ numbers;
-  client = once.client ∙ client;
-  parked = once.parked ∙ parked;
-  looks = look_as before.terms heard.terms before.numbers heard.numbers (used_in after.parked) (used_in heard.parked) (ready_takes event looked) now (requests_take event before.requests) heard.requests after.requests moment moment
-      (closes_client event before.client_closed) heard.client_closed out longer after.phase after.phase terms numbers (ap used_in (sym once.parked)) is requests refl client refl once.looks;
-}
+-- the place stays where the stage is passed
+place_body : (here : At) (flow : Flow) (own : Option Response) (item : Item ReadRequest) (now : ℕ) (sees : Sight) (at : At) (closed : Bool) → IsPlaced here sees at closed →
+    HasPlace (pass_body here flow own item now) sees at closed
+place_body here flow None item now sees at closed is = is
+place_body here flow (Some given) missing now sees at closed is = is
+place_body here flow (Some given) (part head body) now sees at closed is = is
+place_body here flow (Some given) (complete head body trailers size) now sees at closed is = is
+place_body here flow (Some given) (bad_head fault) now sees at closed is = is
+place_body here flow (Some given) (bad_body fault head body) now sees at closed is = is
 
--- an event that is heard, whatever the phase was that was taken out
-pub hears_as : (before after : Stream) (there : Phase) (moment : ℕ) (event : Event) (looked : Wanted) (out longer : List Command) →
-    Hears (record before { phase = there }) after moment event looked out longer → Hears before after moment event looked out longer
-hears_as before after there moment event looked out longer call = record { terms = call.terms; numbers = call.numbers; client = call.client; parked = call.parked; looks = call.looks }
+place_passed : (stage : Stage) (seen : Sight) (at : At) (closed : Bool) → HasPlace stage seen at closed → HasPlace (pass stage seen) (sight_past stage seen) at closed
+place_passed (idle here) seen at closed is = is
+place_passed (busy here flow (request_body None)) seen at closed is = is
+place_passed (busy here flow (request_body (Some given))) seen at closed is =
+    place_body here flow (Some given) (request_in seen) seen.now (sight_past (busy here flow (request_body (Some given))) seen) at closed (record { is_here = is.is_here; client = is.client })
+place_passed (busy here flow connection) seen at closed is = is
+place_passed (busy here flow (response_head server how)) seen at closed is = is
+place_passed (busy here flow (response_body server how)) seen at closed is = is
+place_passed (busy here flow (upgraded server)) seen at closed is = is
+place_passed (busy here flow given_head) seen at closed is = is
+place_passed (busy here flow given_body) seen at closed is = is
+place_passed (next here) seen at closed is = is
+place_passed over seen at closed is = tt
 
-pub takes_as : (before after : Stream) (there : Phase) (moment : ℕ) (event : Event) (looked : Wanted) (out longer : List Command) → before.phase ≡ phase.Ready looked → is_last before.phase ≡ false →
-    Hears (record before { phase = there }) after moment event looked out longer → TakesEvent before after moment event out longer
-takes_as before after there moment event looked out longer live goes call =
-    hears looked live (ap is_last (sym live) ∙ goes) (hears_as before after there moment event looked out longer call)
-
--- an answer that was taken, and the look behind it
-pub answers_then : (before turned after : Stream) (moment : ℕ) (reply : Reply) (here : Asked) (leads : Wanted) (out between longer : List Command) →
-    TurnsTo before turned moment reply here leads out between → LooksOnce turned after moment leads between longer →
-    Answers before after moment reply here (asked_leads before.terms.place before.numbers.flow before.parked here reply) before.requests out longer
-answers_then before turned after moment reply here leads out between longer turns once = record {
-  terms = once.terms ∙ turns.terms;
-  client = once.client ∙ turns.client;
-  parked = once.parked ∙ turns.parked;
-  numbers = once.numbers ∙ turns.numbers;
-  between = between;
-  owes = turns.gives;
-  looks = look_as before.terms turned.terms after.numbers turned.numbers (used_in after.parked) (used_in turned.parked) (asked_leads before.terms.place before.numbers.flow before.parked here reply) leads before.requests turned.requests after.requests moment moment
-      before.client_closed turned.client_closed between longer after.phase after.phase turns.terms (sym once.numbers) (ap used_in (sym once.parked)) turns.leads turns.requests refl turns.client refl once.looks;
-}
-
--- in sequence the next flow begins before the look
-pub answers_onward : (before turned begun after : Stream) (moment : ℕ) (reply : Reply) (here : Asked) (leads now : Wanted) (out between longer : List Command) →
-    TurnsTo before turned moment reply here leads out between → begun.terms ≡ turned.terms → begun.numbers ≡ turned.numbers → begun.client_closed ≡ turned.client_closed → begun.parked ≡ turned.parked →
-    begun.requests ≡ requests_onward leads turned.requests → now ≡ ready_onward leads → LooksOnce begun after moment now between longer →
-    Answers before after moment reply here (ready_onward (asked_leads before.terms.place before.numbers.flow before.parked here reply)) (requests_onward (asked_leads before.terms.place before.numbers.flow before.parked here reply) before.requests) out longer
-answers_onward before turned begun after moment reply here leads now out between longer turns terms numbers client parked requests is once =
-    let same : now ≡ ready_onward (asked_leads before.terms.place before.numbers.flow before.parked here reply) = is ∙ ap ready_onward turns.leads in
-    let kept : begun.requests ≡ requests_onward (asked_leads before.terms.place before.numbers.flow before.parked here reply) before.requests =
-    requests ∙ (ap (λ r. requests_onward r turned.requests) turns.leads ∙ ap (λ s. requests_onward (asked_leads before.terms.place before.numbers.flow before.parked here reply) s) turns.requests) in
+pub looked_in : (made : Terms) (before after : Stream) (moment : ℕ) (looked : Wanted) (out longer : List Command) (stage : Stage) (seen : Sight) (sent : List ReadResponse) →
+    before.terms ≡ made → moment ≡ seen.now → IsReady before.at before.requests before.side looked stage seen sent → HasPlace stage seen before.at before.client_closed →
+    LooksOnce before after moment looked out longer → LookedIn made before after stage seen sent out longer
+looked_in made before after moment looked out longer stage seen sent terms now ready place once =
+    let found = subst (λ t. LookFound t before.at (used_in before.side) moment before.client_closed looked before.requests after.requests before.side after.side out longer after.phase) terms once.looks in
+    let there = advanced made before.at seen before.requests after.requests before.side after.side moment before.client_closed out longer after.phase sent now stage looked ready place found in
     record {
-      terms = once.terms ∙ (terms ∙ turns.terms);
-      client = once.client ∙ (client ∙ turns.client);
-      parked = once.parked ∙ (parked ∙ turns.parked);
-      numbers = once.numbers ∙ (numbers ∙ turns.numbers);
-      between = between;
-      owes = turns.gives;
-      looks = look_as before.terms begun.terms after.numbers begun.numbers (used_in after.parked) (used_in begun.parked) (ready_onward (asked_leads before.terms.place before.numbers.flow before.parked here reply)) now
-          (requests_onward (asked_leads before.terms.place before.numbers.flow before.parked here reply) before.requests) begun.requests after.requests moment moment
-          before.client_closed begun.client_closed between longer after.phase after.phase (terms ∙ turns.terms) (sym once.numbers) (ap used_in (sym once.parked)) same kept refl (client ∙ turns.client) refl once.looks;
+      more = there.more;
+      grown = there.grown;
+      owes = there.owes;
+      is_in = record {
+        terms = once.terms ∙ terms;
+        place = subst (λ a. HasPlace (pass stage seen) (sight_past stage seen) a after.client_closed) (sym once.at)
+            (subst (λ c. HasPlace (pass stage seen) (sight_past stage seen) before.at c) (sym once.client) (place_passed stage seen before.at before.client_closed place));
+        phase = subst (λ a. PhaseAt (look made (pass stage seen) (sight_past stage seen)) made a after.requests after.side after.phase (pass stage seen) (sight_past stage seen)) (sym once.at) there.phase;
+      };
     }
-
--- and it may look there
-pub may_look_then : (before turned : Stream) (moment : ℕ) (reply : Reply) (here : Asked) (leads : Wanted) (out between : List Command) → TurnsTo before turned moment reply here leads out between →
-    MayLook (asked_leads before.terms.place before.numbers.flow before.parked here reply) before.requests → MayLook leads turned.requests
-may_look_then before turned moment reply here leads out between turns may =
-    let P : State → Type 0 = λ s. MayLook leads s in
-    let Q : Wanted → Type 0 = λ r. MayLook r before.requests in
-    subst P (sym turns.requests) (subst Q (sym turns.leads) may)
-
--- the same answer, whatever the phase was that was taken out
-pub answers_as : (before after : Stream) (there : Phase) (moment : ℕ) (reply : Reply) (here : Asked) (looked : Wanted) (requests : State) (out longer : List Command) →
-    Answers (record before { phase = there }) after moment reply here looked requests out longer → Answers before after moment reply here looked requests out longer
-answers_as before after there moment reply here looked requests out longer call =
-    record { terms = call.terms; client = call.client; parked = call.parked; numbers = call.numbers; between = call.between; owes = call.owes; looks = call.looks }
-
--- something is awaited where it may be answered
-pub is_awaited : (here : Option Ask) (reply : Reply) → MayAnswer here reply → IsSome here
-is_awaited None reply may = may
-is_awaited (Some ask) reply may = tt
-
-pub may_look_heard : (event : Event) (requests now : State) (parked : Option KeptLink) (looked there : Wanted) → there ≡ ready_takes event looked → now ≡ requests_take event requests → MayHear event requests parked looked → MayLook there now
-may_look_heard event requests now parked looked there is same may =
-    let P : State → Type 0 = λ s. MayLook there s in
-    let Q : Wanted → Type 0 = λ r. MayLook r (requests_take event requests) in
-    subst P (sym same) (subst Q (sym is) may.looks)
-
--- a turn, from the fields that it reads
-pub turns_by : (before : Stream) (server numbers : Numbers) (left : Option KeptLink) (moment moment_now : ℕ) (closed_now : Bool) (reply : Reply) (here : Asked) (leads : Wanted) (out longer : List Command) →
-    server ≡ behind_asked before.numbers here → numbers ≡ behind_ready server leads → moment_now ≡ moment → closed_now ≡ before.client_closed →
-    longer ≡ out ++ asked_owes before.terms.place before.numbers.flow before.parked here reply moment_now closed_now → leads ≡ asked_leads before.terms.place before.numbers.flow before.parked here reply →
-    left ≡ behind_parked before.terms.place here reply before.parked → TurnsTo before (record before { numbers = numbers; parked = left }) moment reply here leads out longer
-turns_by before server numbers left moment moment_now closed_now reply here leads out longer counts is same_moment same_closed gives led parked = record {
-  terms = refl;
-  requests = refl;
-  client = refl;
-  parked = parked;
-  numbers = is ∙ (ap (λ n. behind_ready n leads) counts ∙ ap (λ r. behind_ready (behind_asked before.numbers here) r) led);
-  gives = gives ∙ (ap (λ m. out ++ asked_owes before.terms.place before.numbers.flow before.parked here reply m closed_now) same_moment ∙ ap (λ b. out ++ asked_owes before.terms.place before.numbers.flow before.parked here reply moment b) same_closed);
-  leads = led;
-}
-
--- ---- what a look adds
-
-grown_by : (out between longer xs ys : List Command) → between ≡ out ++ xs → longer ≡ between ++ ys → (more : List Command) × (longer ≡ out ++ more)
-grown_by out between longer xs ys one two = (xs ++ ys, two ∙ (ap (λ l. l ++ ys) one ∙ append_assoc out xs ys))
-
-module _ (terms : Terms) (numbers : Numbers) (used : Used) (seen : Sight) (old new : State) (moment : ℕ) (closed : Bool) (out longer : List Command) (is_now : Phase) (sent : List ReadResponse) where
-  as_ready : (looked known : Wanted) → looked ≡ known → LookFound terms numbers used looked old new moment closed out longer is_now → LookFound terms numbers used known old new moment closed out longer is_now
-  as_ready looked known is look_found = let P : Wanted → Type 0 = λ r. LookFound terms numbers used r old new moment closed out longer is_now in subst P is look_found
-
-  pub look_adds : (stage : Stage) (looked : Wanted) → IsReady old looked stage seen sent → LookFound terms numbers used looked old new moment closed out longer is_now →
-      (more : List Command) × (longer ≡ out ++ more)
-  look_adds (idle at) looked is look_found = let head = as_ready looked ready.Idle is.phase look_found in (_, head.gives (drop at.used seen.client) is.reads)
-  look_adds (busy at flow (request_body given)) looked is look_found = let body = as_ready looked (ready.Receiving flow given _) is.phase look_found in (_, body.gives)
-  look_adds (busy at flow connection) looked is look_found = let once = as_ready looked (ready.Dialling flow) is.phase look_found in (_, once.gives)
-  look_adds (busy at flow (response_head side how)) looked is look_found =
-      let both = as_ready looked (ready.Answering flow is.kept) is.phase look_found in
-      let read = both.1.read (is_head flow.request.method) side.server (drop side.used seen.server) seen.shut sent is.is_link.keeps in
-      grown_by out both.1.between longer _ _ read.grown both.1.gives
-  look_adds (busy at flow (response_body side how)) looked is look_found = let both = as_ready looked (ready.Returning flow is.kept _) is.phase look_found in (_, both.1.1.gives)
-  look_adds (busy at flow (upgraded side)) looked is look_found = let once = as_ready looked (ready.Upgraded flow is.kept) is.phase look_found in (_, once.gives)
-  look_adds (busy at flow given_head) looked is look_found = let once = as_ready looked (ready.GivenHead flow) is.phase look_found in (_, once.gives)
-  look_adds (busy at flow given_body) looked is look_found = let once = as_ready looked (ready.GivenBody flow) is.phase look_found in (_, once.gives)
-  look_adds (next at) looked is look_found = let once = as_ready looked ready.Finished is.phase look_found in (_, once.gives)
-  look_adds over looked is look_found = let once = as_ready looked ready.Over is look_found in (_, once.gives)
 
 -- ---- an event
 
 module _ (before after : Stream) (moment : ℕ) (event : Event) (out longer : List Command) where
-  heard_by : (made : Terms) (looked : Wanted) → before.phase ≡ phase.Ready looked → is_last (phase.Ready looked) ≡ false → Hears before after moment event looked out longer →
-      (l : Look Command) (stage : Stage) (seen : Sight) → look made stage seen ≡ l → PhaseAt l made before.requests before.phase stage seen → IsIn made before stage seen → (more : List Command) × (longer ≡ out ++ more)
-  heard_by made looked live goes heard NotYet stage seen waits (known, sent, same, there, gave) at =
-      let one : phase.Ready known ≡ phase.Ready looked = sym same ∙ live in
-      let same_ready : known ≡ looked = cc in
-      let P : Wanted → Type 0 = λ r. IsReady before.requests r stage seen sent in
-      look_adds before.terms before.numbers (used_in after.parked) (sight_with (side_of stage) seen event moment) (requests_take event before.requests) after.requests moment (closes_client event before.client_closed) out longer after.phase sent
-      stage (ready_takes event looked)
-      (ready_on made seen event moment stage before.requests looked sent before.numbers before.client_closed at.place waits (subst P same_ready there)) heard.looks
-  heard_by made looked live goes heard (Asks ask) stage seen waits (here, same, there) at = absurd (let e : phase.Asked here ≡ phase.Ready looked = sym same ∙ live in cc)
-  heard_by made looked live goes heard (Ends owed) stage seen waits (last, same, there) at =
-      absurd (let no : true ≡ false = sym (ends_last made stage seen before.requests last there) ∙ (ap is_last (sym same ∙ live) ∙ goes) in cc)
+  -- it heard the event and looked
+  heard_in : (made : Terms) (stage : Stage) (seen : Sight) (looked : Wanted) (between : Stream) → IsIn made before stage seen → LooksAt made before looked stage seen →
+      Hears before between event → LooksOnce between after moment looked out longer → (sent : List ReadResponse) → IsReady before.at before.requests before.side looked stage seen sent →
+      LookedIn made between after stage (sight_with (side_of stage) seen event moment) sent out longer
+  heard_in made stage seen looked between is there heard once sent ready =
+      let later : Sight = sight_with (side_of stage) seen event moment in
+      let on = ready_on made seen event moment stage before.at before.requests before.side looked sent there.waits ready in
+      looked_in made between after moment looked out longer stage later sent (heard.terms ∙ is.terms) refl
+      (subst (λ a. IsReady a between.requests between.side looked stage later sent) (sym heard.at)
+      (subst (λ r. IsReady before.at r between.side looked stage later sent) (sym heard.requests)
+      (subst (λ s. IsReady before.at (requests_take event before.requests) s looked stage later sent) (sym heard.side) on)))
+      (subst (λ a. HasPlace stage later a between.client_closed) (sym heard.at)
+      (subst (λ c. HasPlace stage later before.at c) (sym heard.client) (place_on stage seen event moment before.at before.client_closed is.place)))
+      once
 
   take_adds : (made : Terms) (stage : Stage) (seen : Sight) → IsIn made before stage seen → TakesEvent before after moment event out longer → (more : List Command) × (longer ≡ out ++ more)
-  take_adds made stage seen at (ended is same none) = ([], none ∙ sym (append-nil out))
-  take_adds made stage seen at (hears looked live goes heard) = heard_by made looked live goes heard (look made stage seen) stage seen refl at.phase at
+  take_adds made stage seen is (ended last same none) = ([], none ∙ sym (append-nil out))
+  take_adds made stage seen is (hears looked between live goes heard once) =
+      let there = looks_at made before stage seen looked live goes is in
+      let got = heard_in made stage seen looked between is there heard once there.sent there.ready in
+      (got.more, got.grown)
 
   nothing_added : (more : List Command) → longer ≡ out → longer ≡ out ++ more → more ≡ []
-  nothing_added more none grown = nil out more (append-nil out ∙ (sym none ∙ grown))
-    where
-      nil : (xs ys : List Command) → xs ++ [] ≡ xs ++ ys → ys ≡ []
-      nil [] ys is = sym is
-      nil (x ∷ xs) ys is = nil xs ys (let e : x ∷ (xs ++ []) ≡ x ∷ (xs ++ ys) = is in cc)
+  nothing_added more none grown = same_tail out more [] (sym grown ∙ (none ∙ sym (append-nil out)))
 
   -- where it goes, and what it adds
-  takes : (onward_to : Stage → Stage) (made : Terms) (more : List Command) → TakesEvent before after moment event out longer → longer ≡ out ++ more → (place : Standing) (prefix : List (Timed Event)) →
-      IsAt made before place prefix → Takes (http_chain onward_to made) (IsAt made) after moment event more place prefix
-  takes onward_to made more (ended is same none) grown place prefix at =
-      let end = (ends_where_it_ends onward_to made).ends before place prefix at is in
-      let P : Stream → Type 0 = λ s. IsAt made s place prefix in
-      let nothing = nothing_added more none grown in
-      past_end end.0 end.1 (subst P (sym same) at) (λ view. ap (seen_of view) nothing)
-  takes onward_to made more (hears looked live goes heard) grown place prefix at =
-      takes_event onward_to made before after moment event looked out longer more live goes heard.terms heard.numbers heard.client heard.parked heard.looks grown place prefix at
+  takes : (made : Terms) (more : List Command) → TakesEvent before after moment event out longer → longer ≡ out ++ more → (place : Standing) (prefix : List (Timed Event)) →
+      IsAt made before place prefix → Takes (http_chain sequence made) (IsAt made) after moment event more place prefix
+  takes made more (ended last same none) grown place prefix at =
+      let end = (ends_where_it_ends sequence made).ends before place prefix at last in
+      past_end end.0 end.1 (subst (λ s. IsAt made s place prefix) (sym same) at) (λ view. ap (seen_of view) (nothing_added more none grown))
+  takes made more (hears looked between live goes heard once) grown place prefix at =
+      let now : Timed Event = record { moment = moment; value = event } in
+      let seen : Sight = sight_over place prefix in
+      let later : Sight = sight_with (side_of place.stage) seen event moment in
+      let there = looks_at made before place.stage seen looked live goes at.is_in in
+      let got = heard_in made place.stage seen looked between at.is_in there heard once there.sent there.ready in
+      let same : sight_over place (prefix ++ now ∷ []) ≡ later = sight_more place prefix now (open_still made place.stage seen there.waits) at.within in
+      let same_more : got.more ≡ more = same_tail out got.more more (sym got.grown ∙ grown) in
+      let owes = subst (λ l. sent_on place.stage there.sent ++ l ≡ Owed made place (prefix ++ now ∷ []) later same (pass place.stage later) (sight_past place.stage later)) same_more got.owes in
+      onward there.waits (at_walked made place (prefix ++ now ∷ []) later same after (within_more place prefix now at.within) got.is_in)
+      (λ view. ap (λ l. seen_of view l ++ seen_of view more) there.gave ∙ gives_walked made place (prefix ++ now ∷ []) later same view (sent_on place.stage there.sent) more owes)
 
-  -- where flows follow one another
   few_takes : (made : Terms) (ahead : ℕ) (more : List Command) (place : Standing) (prefix : List (Timed Event)) → IsFew ahead place.stage → ahead ≤ 1 →
       Takes (http_chain sequence made) (IsAt made) after moment event more place prefix → Takes (http_chain sequence made) (IsInSequence made ahead) after moment event more place prefix
   few_takes made ahead more place prefix few small (onward is at gives) =
       onward is (record { is_at = at; few = pass_few ahead place.stage (sight_over place (prefix ++ record { moment = moment; value = event } ∷ [])) few; small = small }) gives
   few_takes made ahead more place prefix few small (past_end owed is at gives) = past_end owed is (record { is_at = at; few = few; small = small }) gives
-
-  pub take_alone_goes : IsSound (Stands alone) before → TakesEvent before after moment event out longer → Goes (Stands alone) before after (Took moment event) out longer
-  take_alone_goes (made, past, given, stands) call =
-      let added = take_adds made.terms _ _ stands.place.is_in call in
-      take_goes (λ (m : Stream). http_chain alone m.terms) (λ m. settles alone m.terms) (λ m. first_of m) (λ m. IsAt m.terms) before after moment event added.0 out longer added.1
-      (λ m place prefix _ at. takes alone m.terms added.0 call added.1 place prefix at)
-
-  pub take_alone_asks : IsSound (Stands alone) before → TakesEvent before after moment event out longer → AsksOnly (awaits after) out longer
-  take_alone_asks (made, past, given, stands) call =
-      let added = take_adds made.terms _ _ stands.place.is_in call in
-      (added.0, added.1, takes_asks alone made.terms after moment added.0 event _ _ (takes alone made.terms added.0 call added.1 _ _ stands.place))
-
-  pub take_alone_left : IsSound (Stands alone) before → TakesEvent before after moment event out longer → flow_left after ≤ flow_left before
-  take_alone_left (made, past, given, stands) call =
-      let added = take_adds made.terms _ _ stands.place.is_in call in
-      takes_left flow_left stage_left flow_measures made.terms alone before after moment event added.0 _ _ stands.place (takes alone made.terms added.0 call added.1 _ _ stands.place)
 
   -- wherever it stood
   pub take_somewhere : Somewhere before → TakesEvent before after moment event out longer → TakesAnywhere before after moment event out longer
@@ -380,234 +323,292 @@ module _ (before after : Stream) (moment : ℕ) (event : Event) (out longer : Li
       record {
         more = added.0;
         grown = added.1;
-        takes = λ terms most there front is. few_takes terms most added.0 there front is.few is.small (takes sequence terms added.0 call added.1 there front is.is_at);
+        takes = λ terms most there front is. few_takes terms most added.0 there front is.few is.small (takes terms added.0 call added.1 there front is.is_at);
       }
 
   pub take_somewhere_asks : Somewhere before → TakesEvent before after moment event out longer → AsksOnly (awaits after) out longer
   take_somewhere_asks (made, ahead, place, prefix, at) call =
       let added = take_adds made place.stage (sight_over place prefix) at.is_at.is_in call in
-      (added.0, added.1, takes_asks sequence made after moment added.0 event place prefix (takes sequence made added.0 call added.1 place prefix at.is_at))
+      (added.0, added.1, takes_asks made after moment added.0 event place prefix (takes made added.0 call added.1 place prefix at.is_at))
 
   pub take_somewhere_left : Somewhere before → TakesEvent before after moment event out longer → sequence_left after ≤ sequence_left before
   take_somewhere_left (made, ahead, place, prefix, at) call =
       let added = take_adds made place.stage (sight_over place prefix) at.is_at.is_in call in
-      takes_left sequence_left stages_left sequence_measures made sequence before after moment event added.0 place prefix at.is_at (takes sequence made added.0 call added.1 place prefix at.is_at)
+      takes_left made before after moment event added.0 place prefix at.is_at (takes made added.0 call added.1 place prefix at.is_at)
 
-  pub take_sequence_goes : TakesAnywhere before after moment event out longer → Goes StandsInSequence before after (Took moment event) out longer
-  take_sequence_goes call =
-      take_goes (λ (m : Stream). http_chain sequence m.terms) (λ m. settles sequence m.terms) (λ m. first_of m) (λ m. IsInSequence m.terms (ahead_of m.numbers)) before after moment event call.more out longer call.grown
-      (λ m place prefix _ at. call.takes m.terms (ahead_of m.numbers) place prefix at)
-
--- flows in sequence stand somewhere
-pub sequence_somewhere : (state : Stream) → IsSound StandsInSequence state → Somewhere state
-sequence_somewhere state (made, past, given, stands) = (made.terms, ahead_of made.numbers, _, _, stands.place)
+-- its readers may hear the event, wherever it stood
+pub hears_anywhere : (state : Stream) (event : Event) → Somewhere state → (looked : Wanted) → state.phase ≡ phase.Ready looked → is_last (phase.Ready looked) ≡ false →
+    MayHear event state.requests state.side looked
+hears_anywhere state event (made, ahead, place, prefix, stands) looked live goes =
+    let seen : Sight = sight_over place prefix in
+    let there = looks_at made state place.stage seen looked live goes stands.is_at.is_in in
+    let more = may_hear state.at state.requests state.side looked place.stage seen there.sent goes there.ready in
+    record {
+      agrees = more.agrees;
+      open_still = more.open_still;
+      looks = may_look state.at (requests_take event state.requests) (side_takes event state.side) looked place.stage (sight_with (side_of place.stage) seen event 0) there.sent
+          (ready_on made seen event 0 place.stage state.at state.requests state.side looked there.sent there.waits there.ready);
+    }
 
 -- ---- an answer
 
--- what is seen behind a reply
-abbrev behind_reply : Terms → ℕ → Reply → Stage → Sight → Sight
-behind_reply made moment reply stage seen =
-    sight_behind stage seen moment (turn made stage seen (record { moment = moment; value = reply })).stage
+-- something is awaited where it may be answered
+pub is_awaited : (here : Option Ask) (reply : Reply) → MayAnswer here reply → IsSome here
+is_awaited None reply may = may
+is_awaited (Some ask) reply may = tt
 
-module _ (made : Terms) (before : Stream) (moment : ℕ) (reply : Reply) (here : Asked) (live : before.phase ≡ phase.Asked here) where
-  abbrev told : Timed Reply
-  told = record { moment = moment; value = reply }
+-- the side that is used where something was asked is the one that the sight shows
+parked_shows : (parked : Option Parked) (seen : Sight) (side : Option Link) → side ≡ parked_link parked seen → server_parked parked seen ≡ used_in side
+parked_shows parked seen side is = sym (ap used_in is ∙ parked_used parked seen)
 
-  pub asked_by : (l : Look Command) (stage : Stage) (seen : Sight) → PhaseAt l made before.requests before.phase stage seen → IsAsked made before.requests here stage seen
-  asked_by NotYet stage seen (looked, sent, same, ready, gave) = absurd (let e : phase.Ready looked ≡ phase.Asked here = sym same ∙ live in cc)
-  asked_by (Asks ask) stage seen (one, same, there) =
-      let e : phase.Asked one ≡ phase.Asked here = sym same ∙ live in
-      let same_asked : one ≡ here = cc in
-      let P : Asked → Type 0 = λ a. IsAsked made before.requests a stage seen in
-      subst P same_asked there
-  asked_by (Ends owed) stage seen (last, same, there) = absurd (let e : phase.Ready last ≡ phase.Asked here = sym same ∙ live in cc)
+link_shows : (server : ℕ) (seen : Sight) (link : Link) → link.server ≡ server → link.closed ≡ seen.shut → server_in server seen ≡ used_in (Some link)
+link_shows server seen link one two = rw (one, two) refl
 
-  -- where the chain leads, and what is seen there
-  abbrev behind : Stage → Sight → Sight
-  behind stage seen = behind_reply made moment reply stage seen
+final_shows : (message : Request) (server : ℕ) (seen : Sight) (side : Option Link) → IsOpen (ReadsFinal message server seen) side → server_in server seen ≡ used_in side
+final_shows message server seen None is = absurd is
+final_shows message server seen (Some link) is = link_shows server seen link is.is_link.server is.is_link.closed
 
-  turned : (stage : Stage) (seen : Sight) → IsIn made before stage seen →
-      Turned (turn made stage seen told) (behind stage seen) before.requests (asked_owes before.terms.place before.numbers.flow before.parked here reply moment seen.closed) (asked_leads before.terms.place before.numbers.flow before.parked here reply)
-      (behind_ready (behind_asked before.numbers here) (asked_leads before.terms.place before.numbers.flow before.parked here reply)) before.client_closed moment
-  turned stage seen at =
-      let P : Terms → Type 0 = λ t. Turned (turn made stage seen told) (behind stage seen) before.requests (asked_owes t.place before.numbers.flow before.parked here reply moment seen.closed) (asked_leads t.place before.numbers.flow before.parked here reply)
-      (behind_ready (behind_asked before.numbers here) (asked_leads t.place before.numbers.flow before.parked here reply)) before.client_closed moment in
-      subst P (sym at.terms) (answered made seen before.requests before.numbers before.client_closed before.parked told stage here at.place at.dials at.parked (asked_by (look made stage seen) stage seen at.phase))
+kept_shows : (server : ℕ) (bytes : List ℕ) (seen : Sight) (side : Option Link) → IsOpen (LinkKeeps server bytes seen.shut) side → server_in server seen ≡ used_in side
+kept_shows server bytes seen None is = absurd is
+kept_shows server bytes seen (Some link) is = link_shows server seen link is.server is.closed
 
-  -- so it may look there
-  pub may_look_on : (stage : Stage) (seen : Sight) → IsIn made before stage seen → MayLook (asked_leads before.terms.place before.numbers.flow before.parked here reply) before.requests
-  may_look_on stage seen at =
-      let there = turned stage seen at in
-      may_look (behind stage seen) before.requests there.sent (turn made stage seen told).stage (asked_leads before.terms.place before.numbers.flow before.parked here reply) there.is_ready
+shows_for : (terms : Terms) (stage : Stage) (seen : Sight) (side : Option Link) (found : Asked) → asked_in terms stage seen ≡ Some found → AskedSide stage seen side → used_of stage seen ≡ used_in side
+shows_for terms (idle at) seen side found is_asked is = parked_shows at.parked seen side is
+shows_for terms (busy at flow (request_body given)) seen side found is_asked is = parked_shows at.parked seen side is
+shows_for terms (busy at flow connection) seen side found is_asked is = parked_shows at.parked seen side is
+shows_for terms (busy at flow (response_head server how)) seen side found is_asked is = final_shows flow.request server seen side is
+shows_for terms (busy at flow (response_body server how)) seen side found is_asked is = kept_shows server _ seen side is
+shows_for terms (busy at flow (upgraded server)) seen side found is_asked is = parked_shows at.parked seen side is
+shows_for terms (busy at flow given_head) seen side found is_asked is = parked_shows at.parked seen side is
+shows_for terms (busy at flow given_body) seen side found is_asked is = parked_shows at.parked seen side is
+shows_for terms (next at) seen side found is_asked is = absurd (let no : None ≡ Some found = is_asked in cc)
+shows_for terms over seen side found is_asked is = absurd (let no : None ≡ Some found = is_asked in cc)
 
-pub alone_answers : (before : Stream) (moment : ℕ) (reply : Reply) (here : Asked) → IsSound (Stands alone) before → before.phase ≡ phase.Asked here →
-    MayLook (asked_leads before.terms.place before.numbers.flow before.parked here reply) before.requests
-alone_answers before moment reply here (made, past, given, stands) live = may_look_on made.terms before moment reply here live _ _ stands.place.is_in
+placed : (terms : Terms) (stage : Stage) (seen : Sight) (found : Asked) (at : At) (closed : Bool) → asked_in terms stage seen ≡ Some found → HasPlace stage seen at closed → IsPlaced (place_of stage) seen at closed
+placed terms (idle here) seen found at closed is_asked is = is
+placed terms (busy here flow doing) seen found at closed is_asked is = is
+placed terms (next here) seen found at closed is_asked is = is
+placed terms over seen found at closed is_asked is = absurd (let no : None ≡ Some found = is_asked in cc)
 
-pub answers_anywhere : (before : Stream) (moment : ℕ) (reply : Reply) (here : Asked) → Somewhere before → before.phase ≡ phase.Asked here →
-    MayLook (asked_leads before.terms.place before.numbers.flow before.parked here reply) before.requests
-answers_anywhere before moment reply here (made, ahead, place, prefix, at) live = may_look_on made before moment reply here live place.stage (sight_over place prefix) at.is_at.is_in
-
--- where the next flow begins its reader may look too
-pub may_look_onward : (looked : Wanted) (requests : State) → MayLook looked requests → MayLook (ready_onward looked) (requests_onward looked requests)
-may_look_onward ready.Idle requests may = tt
-may_look_onward (ready.Receiving flow given body) requests may = may
-may_look_onward (ready.Dialling flow) requests may = tt
-may_look_onward (ready.Answering flow link) requests may = may
-may_look_onward (ready.Returning flow link body) requests may = may
-may_look_onward (ready.GivenHead flow) requests may = tt
-may_look_onward (ready.GivenBody flow) requests may = tt
-may_look_onward ready.Finished requests may = tt
-may_look_onward (ready.Connects address) requests may = tt
-may_look_onward (ready.Upgraded flow link) requests may = tt
-may_look_onward ready.Over requests may = tt
-
-module _ (onward_to : Stage → Stage) (goes : IsOnward onward_to) (before after : Stream) (moment : ℕ) (reply : Reply) (here : Asked) (looked : Wanted) (requests : State) (out longer : List Command)
-    (live : before.phase ≡ phase.Asked here) (call : Answers before after moment reply here looked requests out longer) where
-  abbrev Led : Terms → Stage → Sight → Type 0
-  Led made stage seen = Turned (onto onward_to (turn made stage seen (record { moment = moment; value = reply }))) (behind_reply made moment reply stage seen) requests
-      (asked_owes before.terms.place before.numbers.flow before.parked here reply moment seen.closed) looked after.numbers before.client_closed moment
-
-  answer_adds : (made : Terms) (stage : Stage) (seen : Sight) → Led made stage seen → (more : List Command) × (longer ≡ out ++ more)
-  answer_adds made stage seen led =
-      let there = look_adds before.terms after.numbers (used_in after.parked) (behind_reply made moment reply stage seen) requests after.requests moment before.client_closed call.between longer after.phase led.sent
-      (onward_to (turn made stage seen (record { moment = moment; value = reply })).stage) looked led.is_ready call.looks in
-      grown_by out call.between longer (asked_owes before.terms.place before.numbers.flow before.parked here reply moment before.client_closed) there.0 call.owes there.1
-
-  -- where it goes, and what it adds
-  resumes : (made : Terms) (more : List Command) → longer ≡ out ++ more → (place : Standing) (prefix : List (Timed Event)) → IsAt made before place prefix → Led made place.stage (sight_over place prefix) →
-      Resumes (http_chain onward_to made) (IsAt made) after moment reply more place prefix
-  resumes made more grown place prefix at led =
-      resumes_answer onward_to goes made before after moment reply here looked requests out call.between longer more live call.terms call.client call.parked call.owes call.looks grown place prefix at (λ _. led)
-
-module _ (before after : Stream) (moment : ℕ) (reply : Reply) (here : Asked) (out longer : List Command) (live : before.phase ≡ phase.Asked here) where
+module _ (before : Stream) (moment : ℕ) (reply : Reply) (found : Asked) (live : before.phase ≡ phase.Asked found) where
   abbrev answer : Timed Reply
   answer = record { moment = moment; value = reply }
 
-  -- what the machine looks for next
-  abbrev leads : Wanted
-  leads = asked_leads before.terms.place before.numbers.flow before.parked here reply
+  module _ (made : Terms) (stage : Stage) (seen : Sight) (is : IsIn made before stage seen) where
+    abbrev asking : (ask : Command) × (look made stage seen ≡ Asks ask) × IsAsked made before.requests before.side found stage seen
+    asking = asked_at made before stage seen found live is
 
-  -- the numbers are those that were counted
-  counted : (turned_to : Turn Stage Command) (seen : Sight) (closed : Bool) (requests : State) (looked : Wanted) →
-      after.numbers ≡ behind_ready (behind_asked before.numbers here) leads →
-      Turned turned_to seen requests (asked_owes before.terms.place before.numbers.flow before.parked here reply moment closed) looked (behind_ready (behind_asked before.numbers here) leads) before.client_closed moment →
-      Turned turned_to seen requests (asked_owes before.terms.place before.numbers.flow before.parked here reply moment closed) looked after.numbers before.client_closed moment
-  counted turned_to seen closed requests looked is there =
-      let P : Numbers → Type 0 = λ n. Turned turned_to seen requests (asked_owes before.terms.place before.numbers.flow before.parked here reply moment closed) looked n before.client_closed moment in
-      subst P (sym is) there
+    abbrev to : Stage
+    to = sequence (turn made stage seen answer).stage
 
-  -- ---- alone
+    abbrev sees : Sight
+    sees = sight_behind stage seen moment to
 
-  module _ (call : Answers before after moment reply here leads before.requests out longer) where
-    alone_led : (made : Terms) (stage : Stage) (seen : Sight) → IsIn made before stage seen →
-        Led alone (is_alone refl) before after moment reply here leads before.requests out longer live call made stage seen
-    alone_led made stage seen at =
-        counted (onto alone (turn made stage seen answer)) (behind_reply made moment reply stage seen) seen.closed before.requests leads call.numbers
-        (led_alone (turn made stage seen answer) (behind_reply made moment reply stage seen) before.requests _ leads _ before.client_closed moment
-        (turned made before moment reply here live stage seen at))
+    place_is : IsPlaced (place_of stage) seen before.at before.client_closed
+    place_is = placed made stage seen found before.at before.client_closed asking.2.asks is.place
 
-    alone_resumes : (made : Terms) (more : List Command) → longer ≡ out ++ more → (place : Standing) (prefix : List (Timed Event)) → IsAt made before place prefix →
-        Resumes (http_chain alone made) (IsAt made) after moment reply more place prefix
-    alone_resumes made more grown place prefix at =
-        resumes alone (is_alone refl) before after moment reply here leads before.requests out longer live call made more grown place prefix at
-        (alone_led made place.stage (sight_over place prefix) at.is_in)
+    -- the sight shows what the calls are made with
+    pub shows : Shows before.at found (used_in before.side) before.client_closed seen
+    shows = record {
+      is_used = ap (λ a. used_at a found seen) place_is.is_here ∙ (used_asked made stage seen found asking.2.asks ∙ shows_for made stage seen before.side found asking.2.asks asking.2.has_side);
+      is_closed = sym place_is.client;
+    }
 
-    alone_adds : (made : Terms) (stage : Stage) (seen : Sight) → IsIn made before stage seen → (more : List Command) × (longer ≡ out ++ more)
-    alone_adds made stage seen at =
-        answer_adds alone (is_alone refl) before after moment reply here leads before.requests out longer live call made stage seen (alone_led made stage seen at)
+    turn_is : asked_turn before.terms.place before.at found seen (used_in before.side) before.client_closed answer ≡ turn made stage seen answer
+    turn_is =
+        ap (λ (t : Terms). asked_turn t.place before.at found seen (used_in before.side) before.client_closed answer) is.terms
+        ∙ (ap (λ a. asked_turn made.place a found seen (used_in before.side) before.client_closed answer) place_is.is_here
+        ∙ (ap (λ u. asked_turn made.place (place_of stage) found seen u before.client_closed answer) (sym (shows_for made stage seen before.side found asking.2.asks asking.2.has_side))
+        ∙ (ap (λ c. asked_turn made.place (place_of stage) found seen (used_of stage seen) c answer) place_is.client ∙ sym (turn_asked made seen answer stage found asking.2.asks))))
 
-    pub resume_alone_goes : IsSound (Stands alone) before → Goes (Stands alone) before after (Replied moment reply) out longer
-    resume_alone_goes (made, past, given, stands) =
-        let added = alone_adds made.terms _ _ stands.place.is_in in
-        resume_goes (λ (m : Stream). http_chain alone m.terms) (λ m. settles alone m.terms) (λ m. first_of m) (λ m. IsAt m.terms) before after moment reply added.0 out longer added.1
-        (λ m place prefix _ at. alone_resumes m.terms added.0 added.1 place prefix at)
+    -- where a turn led
+    pub turns_in : (between : Stream) (looked : Wanted) (out given : List Command) → TurnsTo before between moment reply found looked out given →
+        (given ≡ out ++ (turn made stage seen answer).owed) × Turned to sees between.at between.requests between.side looked between.client_closed
+    turns_in between looked out given call =
+        let leads : stage_of between.at looked ≡ to = call.leads seen shows ∙ ap (λ (t : Turn Stage Command). sequence t.stage) turn_is in
+        let there = turned made stage seen answer before.requests before.side found between.at looked between.client_closed asking.2 leads call.content (call.client ∙ place_is.client) in
+        (
+          call.gives seen shows ∙ ap (λ (t : Turn Stage Command). out ++ t.owed) turn_is,
+          subst (λ r. Turned to sees between.at r between.side looked between.client_closed) (sym call.requests)
+              (subst (λ s. Turned to sees between.at (requests_behind (stage_of between.at looked) before.requests) s looked between.client_closed) (sym call.side) there),
+        )
 
-    pub resume_alone_asks : IsSound (Stands alone) before → AsksOnly (awaits after) out longer
-    resume_alone_asks (made, past, given, stands) =
-        let added = alone_adds made.terms _ _ stands.place.is_in in
-        (added.0, added.1, resumes_asks alone made.terms after moment added.0 reply _ _ (alone_resumes made.terms added.0 added.1 _ _ stands.place))
+    -- it may look there
+    pub turned_looks : (between : Stream) (looked : Wanted) (out given : List Command) → TurnsTo before between moment reply found looked out given → MayLook looked between.requests between.side
+    turned_looks between looked out given call =
+        let there = (turns_in between looked out given call).1 in may_look between.at between.requests between.side looked to sees [] there.is_ready
 
-    pub resume_alone_left : IsSound (Stands alone) before → flow_left after < flow_left before
-    resume_alone_left (made, past, given, stands) =
-        let added = alone_adds made.terms _ _ stands.place.is_in in
-        let there = alone_resumes made.terms added.0 added.1 _ _ stands.place in
-        resumes_left flow_left stage_left flow_measures made.terms alone before after moment reply added.0 _ _ stands.place
-        (flow_falls made.terms _ _ answer there.ask there.asked) there
+    -- and where it looked then
+    record AnsweredIn (after : Stream) (out longer : List Command) : Type 0 where
+      more : List Command
+      grown : longer ≡ out ++ ((turn made stage seen answer).owed ++ more)
+      owes : more ≡ so_far (pass to sees) (sight_past to sees) ++ found_with (behind (pass to sees) (sight_past to sees)) (look made (pass to sees) (sight_past to sees))
+      is_in : IsIn made after (pass to sees) (sight_past to sees)
 
-  -- ---- in sequence
-
-  module _ (call : Answers before after moment reply here (ready_onward leads) (requests_onward leads before.requests) out longer) where
-    onward_led : (made : Terms) (ahead : ℕ) (stage : Stage) (seen : Sight) (ask : Command) → look made stage seen ≡ Asks ask → IsIn made before stage seen → IsFew ahead stage → ahead ≤ 1 →
-        Led sequence (is_sequence refl) before after moment reply here (ready_onward leads) (requests_onward leads before.requests) out longer live call made stage seen
-    onward_led made ahead stage seen ask is at few small =
-        counted (onto sequence (turn made stage seen answer)) (behind_reply made moment reply stage seen) seen.closed (requests_onward leads before.requests) (ready_onward leads) call.numbers
-        (led_onward ahead (turn made stage seen answer) (behind_reply made moment reply stage seen) before.requests _ leads _ before.client_closed moment small
-        (turn_few ahead made stage seen answer ask is few) (turned made before moment reply here live stage seen at))
-
-    asks_there : (made : Terms) (l : Look Command) (stage : Stage) (seen : Sight) → look made stage seen ≡ l → PhaseAt l made before.requests before.phase stage seen →
-        (ask : Command) × (look made stage seen ≡ Asks ask)
-    asks_there made NotYet stage seen is (looked, sent, same, ready, gave) = absurd (let e : phase.Ready looked ≡ phase.Asked here = sym same ∙ live in cc)
-    asks_there made (Asks ask) stage seen is there = (ask, is)
-    asks_there made (Ends owed) stage seen is (last, same, there) = absurd (let e : phase.Ready last ≡ phase.Asked here = sym same ∙ live in cc)
-
-    sequence_led : (made : Terms) (ahead : ℕ) (stage : Stage) (seen : Sight) → IsIn made before stage seen → IsFew ahead stage → ahead ≤ 1 →
-        Led sequence (is_sequence refl) before after moment reply here (ready_onward leads) (requests_onward leads before.requests) out longer live call made stage seen
-    sequence_led made ahead stage seen at few small =
-        let asks_now = asks_there made (look made stage seen) stage seen refl at.phase in onward_led made ahead stage seen asks_now.0 asks_now.1 at few small
-
-    sequence_resumes : (made : Terms) (ahead : ℕ) (more : List Command) → longer ≡ out ++ more → (place : Standing) (prefix : List (Timed Event)) → IsInSequence made ahead before place prefix →
-        Resumes (http_chain sequence made) (IsAt made) after moment reply more place prefix
-    sequence_resumes made ahead more grown place prefix at =
-        resumes sequence (is_sequence refl) before after moment reply here (ready_onward leads) (requests_onward leads before.requests) out longer live call made more grown place prefix at.is_at
-        (sequence_led made ahead place.stage (sight_over place prefix) at.is_at.is_in at.few at.small)
-
-    few_resumes : (made : Terms) (ahead : ℕ) (more : List Command) → longer ≡ out ++ more → (place : Standing) (prefix : List (Timed Event)) → IsInSequence made ahead before place prefix →
-        Resumes (http_chain sequence made) (IsInSequence made ahead) after moment reply more place prefix
-    few_resumes made ahead more grown place prefix at =
-        let there = sequence_resumes made ahead more grown place prefix at in
-        let seen : Sight = sight_over place prefix in
-        let further : Standing = stands place moment prefix (sequence (turn made place.stage seen answer).stage) in
+    answered_in : (after : Stream) (out longer : List Command) → Answers before after moment reply found out longer → AnsweredIn after out longer
+    answered_in after out longer call =
+        let (owes, there) = turns_in call.between call.looked out call.given call.turns in
+        let got = looked_in made call.between after moment call.looked call.given longer to sees [] (call.turns.terms ∙ is.terms) refl there.is_ready there.place call.looks in
         record {
-          ask = there.ask;
-          asked = there.asked;
-          place = record { is_at = there.place; few = sequence_few ahead made place.stage seen (sight_over further prefix) answer there.ask there.asked at.few; small = at.small };
-          gives = there.gives;
+          more = got.more;
+          grown = got.grown ∙ (ap (λ l. l ++ got.more) owes ∙ append_assoc out (turn made stage seen answer).owed got.more);
+          owes = ap (λ l. l ++ got.more) (sym there.none_sent) ∙ got.owes;
+          is_in = got.is_in;
         }
 
-    sequence_adds : (made : Terms) (ahead : ℕ) (stage : Stage) (seen : Sight) → IsIn made before stage seen → IsFew ahead stage → ahead ≤ 1 → (more : List Command) × (longer ≡ out ++ more)
-    sequence_adds made ahead stage seen at few small =
-        answer_adds sequence (is_sequence refl) before after moment reply here (ready_onward leads) (requests_onward leads before.requests) out longer live call made stage seen
-        (sequence_led made ahead stage seen at few small)
+  module _ (after : Stream) (out longer : List Command) (call : Answers before after moment reply found out longer) where
+    -- where it goes, and what it adds
+    resumes : (made : Terms) (place : Standing) (prefix : List (Timed Event)) (more : List Command) → longer ≡ out ++ more → IsAt made before place prefix →
+        Resumes (http_chain sequence made) (IsAt made) after moment reply more place prefix
+    resumes made place prefix more grown at =
+        let seen : Sight = sight_over place prefix in
+        let owed : List Command = (turn made place.stage seen answer).owed in
+        let further : Stage = to made place.stage seen at.is_in in
+        let later : Sight = sees made place.stage seen at.is_in in
+        let got = answered_in made place.stage seen at.is_in after out longer call in
+        let here = asking made place.stage seen at.is_in in
+        let stood : Standing = stands place moment prefix further in
+        let same : sight_over stood prefix ≡ later = sight_turned sequence (is_sequence refl) made place prefix answer in
+        let within : IsWithin stood prefix = within_stood place moment prefix further (onward_from sequence (is_sequence refl) made place.stage seen answer) at.within in
+        let parts : more ≡ owed ++ got.more = same_tail out more _ (sym grown ∙ got.grown) in
+        record {
+          ask = here.0;
+          asked = here.1;
+          place = at_walked made stood prefix later same after within got.is_in;
+          gives = λ view. ap (seen_of view) parts ∙ (seen_append view owed got.more
+              ∙ (ap (λ l. seen_of view owed ++ l) (gives_walked made stood prefix later same view [] got.more got.owes)
+              ∙ sym (seen_append view owed (owed_over (http_chain sequence made) stood prefix))));
+        }
 
-    -- wherever it stood
+    resume_adds : (made : Terms) (place : Standing) (prefix : List (Timed Event)) → IsAt made before place prefix → (more : List Command) × (longer ≡ out ++ more)
+    resume_adds made place prefix at =
+        let got = answered_in made place.stage (sight_over place prefix) at.is_in after out longer call in
+        ((turn made place.stage (sight_over place prefix) answer).owed ++ got.more, got.grown)
+
+    few_resumes : (made : Terms) (ahead : ℕ) (place : Standing) (prefix : List (Timed Event)) (more : List Command) → longer ≡ out ++ more → IsInSequence made ahead before place prefix →
+        Resumes (http_chain sequence made) (IsInSequence made ahead) after moment reply more place prefix
+    few_resumes made ahead place prefix more grown counted =
+        let is = resumes made place prefix more grown counted.is_at in
+        let seen : Sight = sight_over place prefix in
+        let further : Stage = to made place.stage seen counted.is_at.is_in in
+        record {
+          ask = is.ask;
+          asked = is.asked;
+          place = record {
+            is_at = is.place;
+            few = sequence_few ahead made place.stage seen (sight_over (stands place moment prefix further) prefix) answer is.ask is.asked counted.few;
+            small = counted.small;
+          };
+          gives = is.gives;
+        }
+
     pub resume_somewhere : Somewhere before → ResumesAnywhere before after moment reply out longer
     resume_somewhere (made, ahead, place, prefix, at) =
-        let added = sequence_adds made ahead place.stage (sight_over place prefix) at.is_at.is_in at.few at.small in
-        record { more = added.0; grown = added.1; resumes = λ terms most there front is. few_resumes terms most added.0 added.1 there front is }
+        let added = resume_adds made place prefix at.is_at in
+        record { more = added.0; grown = added.1; resumes = λ terms most there front is. few_resumes terms most there front added.0 added.1 is }
 
     pub resume_somewhere_asks : Somewhere before → AsksOnly (awaits after) out longer
     resume_somewhere_asks (made, ahead, place, prefix, at) =
-        let added = sequence_adds made ahead place.stage (sight_over place prefix) at.is_at.is_in at.few at.small in
-        (added.0, added.1, resumes_asks sequence made after moment added.0 reply place prefix (sequence_resumes made ahead added.0 added.1 place prefix at))
+        let added = resume_adds made place prefix at.is_at in
+        (added.0, added.1, resumes_asks made after moment added.0 reply place prefix (resumes made place prefix added.0 added.1 at.is_at))
 
     pub resume_somewhere_left : Somewhere before → sequence_left after < sequence_left before
     resume_somewhere_left (made, ahead, place, prefix, at) =
-        let added = sequence_adds made ahead place.stage (sight_over place prefix) at.is_at.is_in at.few at.small in
-        let there = sequence_resumes made ahead added.0 added.1 place prefix at in
-        resumes_left sequence_left stages_left sequence_measures made sequence before after moment reply added.0 place prefix at.is_at
-        (sequence_falls made place.stage (sight_over place prefix) answer there.ask there.asked) there
+        let added = resume_adds made place prefix at.is_at in
+        resumes_left made before after moment reply added.0 place prefix at.is_at (resumes made place prefix added.0 added.1 at.is_at)
 
--- flows in sequence go where they go anywhere
-pub resume_sequence_goes : (before after : Stream) (moment : ℕ) (reply : Reply) (out longer : List Command) → ResumesAnywhere before after moment reply out longer →
-    Goes StandsInSequence before after (Replied moment reply) out longer
-resume_sequence_goes before after moment reply out longer call =
-    resume_goes (λ (m : Stream). http_chain sequence m.terms) (λ m. settles sequence m.terms) (λ m. first_of m) (λ m. IsInSequence m.terms (ahead_of m.numbers)) before after moment reply call.more out longer call.grown
-    (λ m place prefix _ at. call.resumes m.terms (ahead_of m.numbers) place prefix at)
+  -- wherever this answer leads, it may look there
+  pub may_turn : Somewhere before → MayTurn before moment reply found
+  may_turn (made, ahead, place, prefix, at) between looked out given call = turned_looks made place.stage (sight_over place prefix) at.is_at.is_in between looked out given call
 
--- where the next flow begins
-pub may_look_begun : (leads now : Wanted) (turned requests : State) → now ≡ ready_onward leads → requests ≡ requests_onward leads turned → MayLook leads turned → MayLook now requests
-may_look_begun leads now turned requests is same may =
-    let P : State → Type 0 = λ s. MayLook now s in
-    let Q : Wanted → Type 0 = λ r. MayLook r (requests_onward leads turned) in
-    subst P (sym same) (subst Q (sym is) (may_look_onward leads turned may))
+few_at : (ahead : ℕ) (stage : Stage) (found : Asked) (terms : Terms) (seen : Sight) → asked_in terms stage seen ≡ Some found → ahead ≤ 1 → IsFew ahead stage → IsCounted 2 (place_of stage)
+few_at ahead (idle at) found terms seen is_asked small is = let d = is.dials in record { few = is.few; dials = omega arith }
+few_at ahead (busy at flow (request_body given)) found terms seen is_asked small is = let d = is.dials in record { few = is.few; dials = omega arith }
+few_at ahead (busy at flow connection) found terms seen is_asked small is = let d = is.dials in record { few = is.few; dials = omega arith }
+few_at ahead (busy at flow (response_head server how)) found terms seen is_asked small is = let d = is.dials in record { few = is.few; dials = omega arith }
+few_at ahead (busy at flow (response_body server how)) found terms seen is_asked small is = let d = is.dials in record { few = is.few; dials = omega arith }
+few_at ahead (busy at flow (upgraded server)) found terms seen is_asked small is = let d = is.dials in record { few = is.few; dials = omega arith }
+few_at ahead (busy at flow given_head) found terms seen is_asked small is = let d = is.dials in record { few = is.few; dials = omega arith }
+few_at ahead (busy at flow given_body) found terms seen is_asked small is = let d = is.dials in record { few = is.few; dials = omega arith }
+few_at ahead (next at) found terms seen is_asked small is = let d = is.dials in record { few = is.few; dials = omega arith }
+few_at ahead over found terms seen is_asked small is = absurd (let no : None ≡ Some found = is_asked in cc)
+
+-- its numbers are small where something was asked
+pub few_asked : (state : Stream) (found : Asked) → state.phase ≡ phase.Asked found → Somewhere state → IsCounted 2 state.at
+few_asked state found live (made, ahead, place, prefix, stands) =
+    let seen : Sight = sight_over place prefix in
+    let here = asked_at made state place.stage seen found live stands.is_at.is_in in
+    subst (IsCounted 2) (sym (placed made place.stage seen found state.at state.client_closed here.2.asks stands.is_at.is_in.place).is_here)
+    (few_at ahead place.stage found made seen here.2.asks stands.small stands.few)
+
+-- ---- from the fields that the calls change
+
+-- one look, from what it was told
+pub look_as : (terms : Terms) (at : At) (used there : Used) (moment now : ℕ) (closed shut : Bool) (looked : Wanted) (old new : State) (side later : Option Link) (out longer : List Command) (found is_now : Phase) →
+    used ≡ there → now ≡ moment → shut ≡ closed → found ≡ is_now → LookFound terms at used now shut looked old new side later out longer found →
+    LookFound terms at there moment closed looked old new side later out longer is_now
+look_as terms at used there moment now closed shut looked old new side later out longer found is_now one two three four is =
+    subst (λ u. LookFound terms at u moment closed looked old new side later out longer is_now) one
+    (subst (λ m. LookFound terms at used m closed looked old new side later out longer is_now) two
+    (subst (λ c. LookFound terms at used now c looked old new side later out longer is_now) three
+    (subst (λ p. LookFound terms at used now shut looked old new side later out longer p) four is)))
+
+-- a turn: what was asked is answered, and the readers follow
+pub turns_by : {E : Type 0} (result : Result Wanted E) (before mid after : Stream) (moment now : ℕ) (reply : Reply) (found : Asked) (ready : Wanted) (used : Used) (closed dialled : Bool) (out longer : List Command) →
+    now ≡ moment → closed ≡ before.client_closed → used ≡ used_in before.side → dialled ≡ is_dial found →
+    ((seen : Sight) → Shows before.at found used closed seen → longer ≡ out ++ (asked_turn before.terms.place before.at found seen used closed (record { moment = now; value = reply })).owed) →
+    ((seen : Sight) → Shows before.at found used closed seen → stage_of mid.at ready ≡ sequence (asked_turn before.terms.place before.at found seen used closed (record { moment = now; value = reply })).stage) →
+    content_in ready ≡ [] →
+    IfOk result (λ leads_to. leads_to ≡ ready) → OnOk result (after.terms ≡ before.terms) → OnOk result (after.at ≡ mid.at) → OnOk result (after.client_closed ≡ before.client_closed) →
+    OnOk result (after.requests ≡ requests_behind (stage_of mid.at ready) before.requests) → OnOk result (after.side ≡ side_behind dialled (stage_of mid.at ready) before.side) →
+    IfOk result (λ leads_to. TurnsTo before after moment reply found leads_to out longer)
+turns_by (Ok there) before mid after moment now reply found ready used closed dialled out longer at_now shut uses dials gives leads content same terms at client requests side =
+    let stage : stage_of after.at there ≡ stage_of mid.at ready = ap (λ a. stage_of a there) at ∙ ap (stage_of mid.at) same in
+    let Gives : Used → Bool → ℕ → Type 0 = λ u b m. (seen : Sight) → Shows before.at found u b seen → longer ≡ out ++ (asked_turn before.terms.place before.at found seen u b (record { moment = m; value = reply })).owed in
+    let Leads : Used → Bool → ℕ → Type 0 = λ u b m. (seen : Sight) → Shows before.at found u b seen →
+        stage_of mid.at ready ≡ sequence (asked_turn before.terms.place before.at found seen u b (record { moment = m; value = reply })).stage in
+    let given : Gives (used_in before.side) before.client_closed moment =
+        subst (λ u. Gives u before.client_closed moment) uses (subst (λ b. Gives used b moment) shut (subst (λ m. Gives used closed m) at_now gives)) in
+    let led : Leads (used_in before.side) before.client_closed moment =
+        subst (λ u. Leads u before.client_closed moment) uses (subst (λ b. Leads used b moment) shut (subst (λ m. Leads used closed m) at_now leads)) in
+    record {
+      terms = terms;
+      client = client;
+      gives = given;
+      leads = λ seen shows. stage ∙ led seen shows;
+      content = ap content_in same ∙ content;
+      requests = requests ∙ ap (λ s. requests_behind s before.requests) (sym stage);
+      side = side ∙ (ap (λ d. side_behind d (stage_of mid.at ready) before.side) dials ∙ ap (λ s. side_behind (is_dial found) s before.side) (sym stage));
+    }
+turns_by (Err e) before mid after moment now reply found ready used closed dialled out longer at_now shut uses dials gives leads content same terms at client requests side = tt
+
+-- the event, from the fields that heard it
+pub heard_by : {T E : Type 0} (result : Result T E) (before : Stream) (event : Event) (requests : State) (closed : Bool) (side : Option Link) →
+    OnOk result (requests ≡ requests_take event before.requests) → OnOk result (closed ≡ closes_client event before.client_closed) → OnOk result (side ≡ side_takes event before.side) →
+    OnOk result (Hears before (record before { requests = requests; client_closed = closed; side = side }) event)
+heard_by (Ok x) before event requests closed side one two three = record { terms = refl; at = refl; client = two; requests = one; side = three }
+heard_by (Err e) before event requests closed side one two three = tt
+
+-- whatever the phase was that was taken out
+pub takes_heard : (before between : Stream) (taken : Phase) (event : Event) → Hears (record before { phase = taken }) between event → Hears before between event
+takes_heard before between taken event is = record { terms = is.terms; at = is.at; client = is.client; requests = is.requests; side = is.side }
+
+pub looks_heard : (before between : Stream) (taken : Phase) (event : Event) (looked : Wanted) → MayHear event before.requests before.side looked → Hears (record before { phase = taken }) between event →
+    MayLook looked between.requests between.side
+looks_heard before between taken event looked may is =
+    subst (λ r. MayLook looked r between.side) (sym is.requests) (subst (λ s. MayLook looked (requests_take event before.requests) s) (sym is.side) may.looks)
+
+pub turn_taken : (before between : Stream) (taken : Phase) (moment : ℕ) (reply : Reply) (found : Asked) (looked : Wanted) (out longer : List Command) →
+    TurnsTo (record before { phase = taken }) between moment reply found looked out longer → TurnsTo before between moment reply found looked out longer
+turn_taken before between taken moment reply found looked out longer is =
+    record { terms = is.terms; client = is.client; gives = is.gives; leads = is.leads; content = is.content; requests = is.requests; side = is.side }
+
+pub taken_answer : (before : Stream) (taken : Phase) (between after : Stream) (moment : ℕ) (reply : Reply) (found : Asked) (looked : Wanted) (out given longer : List Command) →
+    TurnsTo (record before { phase = taken }) between moment reply found looked out given → LooksOnce between after moment looked given longer → Answers before after moment reply found out longer
+taken_answer before taken between after moment reply found looked out given longer call once =
+    record { between = between; looked = looked; given = given; turns = turn_taken before between taken moment reply found looked out given call; looks = once }
+
+pub heard_event : (before between after : Stream) (taken : Phase) (moment : ℕ) (event : Event) (looked : Wanted) (out longer : List Command) → before.phase ≡ phase.Ready looked → is_last before.phase ≡ false →
+    Hears (record before { phase = taken }) between event → LooksOnce between after moment looked out longer → TakesEvent before after moment event out longer
+heard_event before between after taken moment event looked out longer live goes heard once =
+    hears looked between live (ap is_last (sym live) ∙ goes) (takes_heard before between taken event heard) once

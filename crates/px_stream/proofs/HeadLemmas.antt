@@ -25,8 +25,7 @@ use Rattle.px_read.specs.Heads.{asks_tunnel, connect_method}
 use Rattle.px_read.proofs.TunnelLemmas.{connect-whole}
 use Rattle.px_exchange.specs.Endings.{shut_server}
 use Rattle.px_exchange.specs.Finds.{look_head, look_judged, or_leaves}
-use Rattle.px_stream.specs.Looks.{where_left}
-use Rattle.px_stream.specs.Phases.{head_phase, judged_phase}
+use Rattle.px_stream.specs.Looks.{head_phase, judged_phase, where_left}
 use Rattle.px_exchange.specs.Requests.{differs, goal_at, judged, judged_goal, judged_length, judged_method, request_of}
 use Rattle.px_stream.proofs.ReadLemmas.{HeadShown}
 

@@ -1,344 +1,481 @@
--- Looking once, where no answer is awaited: what is given is what the stage owes, and the flow is where the stage is.
-use Rattle.std.proofs.Common.{◌≡◌, ℕ, ◌+◌, ◌≤◌, Bool, true, false, List, [], ◌∷◌, ◌++◌, length, drop, Option, Some, None, refl, ap, sym, ◌∙◌, subst, arith, length-drop}
-use Rattle.std.proofs.lemmas.Grind.{flat_map-append}
+-- One look, whatever is looked for: what is given is what the stage owes that is passed to, and the flow is there.
+use Rattle.std.proofs.Common.{◌≡◌, ℕ, ◌+◌, Bool, true, false, List, [], ◌∷◌, ◌++◌, length, drop, Option, Some, None, refl, ap, sym, ◌∙◌, subst, append_assoc}
 use Rattle.std.proofs.lemmas.List.{drop-drop}
+use Rattle.px_message.specs.declared.address.Address.{Address}
 use Rattle.px_message.specs.declared.fault.Fault.{Fault}
+use Rattle.px_message.specs.declared.fault.Fault.TheVariants.{BadResponse}
 use Rattle.px_message.specs.declared.flow.Flow.{Flow}
 use Rattle.px_message.specs.declared.response.Response.{Response}
 use Rattle.px_event.specs.declared.ask.Hook.TheVariants.{RequestHead, RequestBody, ResponseHead, ResponseBody}
 use Rattle.px_event.specs.declared.command.Command.{Command}
 use Rattle.px_event.specs.declared.command.Command.TheVariants as commands
 use Rattle.px_event.specs.Chain.{Look, NotYet, Asks, Ends, found, found_with}
-use Rattle.px_read.specs.Chunks.{Reading}
-use Rattle.px_read.specs.Items.{Body, Item, missing, part, complete, bad_head, bad_body, body_of, content_in, no_body, request_told, request_item}
+use Rattle.px_read.specs.Heads.{is_interim}
+use Rattle.px_read.specs.Items.{Body, Item, missing, part, complete, bad_head, bad_body, body_of, no_body, request_item, answer_list}
 use Rattle.px_read.specs.Laws.{head_in}
-use Rattle.px_read.specs.Marks.{Mark, asks}
+use Rattle.px_read.specs.Marks.{Mark, asks, answers}
 use Rattle.px_read.specs.Reader.{request, State, Reads}
 use Rattle.px_read.specs.declared.head.RequestHead.{RequestHead as ReadRequest}
+use Rattle.px_read.specs.declared.head.ResponseHead.{ResponseHead as ReadResponse}
+use Rattle.px_exchange.specs.declared.asked.Judged.{Judged}
+use Rattle.px_exchange.specs.declared.asked.Judged.TheVariants.{Refused, Accepted, Connects}
+use Rattle.px_exchange.specs.declared.body.Progress.{Progress}
+use Rattle.px_exchange.specs.declared.body.Progress.TheVariants as progress
 use Rattle.px_exchange.specs.declared.ending.Used.{Used}
+use Rattle.px_exchange.specs.declared.ending.Used.TheVariants.{ByServer}
+use Rattle.px_exchange.specs.declared.terms.Terms.{Terms}
+use Rattle.px_exchange.specs.Bodies.{content_of}
+use Rattle.px_exchange.specs.Endings.{closed_message, ends_by_fault, ends_early, refuses, shut_server, without_response}
+use Rattle.px_exchange.specs.Finds.{is_relayed, look_answer, look_answer_head, look_head, look_judged, or_leaves}
+use Rattle.px_exchange.specs.Flows.{ask_of, response_of, with_answer, with_body, with_end, with_returned, with_start}
+use Rattle.px_exchange.specs.Places.{dialled_for}
+use Rattle.px_exchange.specs.Requests.{expects, flow_of, is_head, is_http11, judged}
+use Rattle.px_exchange.specs.Texts.{interim_commands, sends_on}
+use Rattle.px_chain.specs.Chain.{Connect, behind, connect_in, leaving, look, pass, pass_body, sight_past, so_far}
+use Rattle.px_chain.specs.Sights.{Sight, answers_in, left_by, request_in, server_in, server_left, server_parked}
+use Rattle.px_chain.specs.Stages.{At, Parked, Stage, all_sent, busy, connection, given_body, given_head, idle, over, request_body, response_body, response_head, upgraded}
+use Rattle.px_chain.proofs.ChainLaws.{commands_append}
+use Rattle.px_stream.specs.declared.link.Link.{Link}
+use Rattle.px_stream.specs.declared.phase.Asked.{Asked}
 use Rattle.px_stream.specs.declared.phase.Asked.TheVariants as asked
 use Rattle.px_stream.specs.declared.phase.Phase.{Phase}
 use Rattle.px_stream.specs.declared.phase.Phase.TheVariants as phase
+use Rattle.px_stream.specs.declared.phase.Wanted.{Wanted}
 use Rattle.px_stream.specs.declared.phase.Wanted.TheVariants as ready
-use Rattle.px_exchange.specs.declared.body.Progress.{Progress}
-use Rattle.px_exchange.specs.declared.body.Progress.TheVariants as progress
-use Rattle.px_exchange.specs.declared.terms.Terms.{Terms}
-use Rattle.px_exchange.specs.Bodies.{HasRead, content_of}
-use Rattle.px_exchange.specs.Places.{dialled_for}
-use Rattle.px_stream.specs.Bodies.{BodyFound}
-use Rattle.px_exchange.specs.Flows.{ask_of, with_body, with_end, with_start}
-use Rattle.px_chain.specs.Chain.{Connect, behind, connect_in, look, pass, pass_body, so_far, used_more}
-use Rattle.px_chain.specs.Sights.{Sight, request_in, server_parked}
-use Rattle.px_chain.specs.Stages.{At, Stage, busy, connection, given_body, given_head, idle, request_body}
-use Rattle.px_exchange.specs.Finds.{look_head, look_judged, or_leaves}
-use Rattle.px_exchange.specs.Endings.{closed_message, ends_by_fault, ends_early, refuses, shut_server}
-use Rattle.px_message.specs.declared.address.Address.{Address}
-use Rattle.px_stream.specs.Found.{LookedAt}
-use Rattle.px_stream.specs.Looking.{HeadRead}
-use Rattle.px_stream.specs.Looks.{body_gives, body_phase, where_left}
-use Rattle.px_stream.specs.Phases.{head_phase, is_over, judged_phase, marks_at, unless_left}
-use Rattle.px_exchange.specs.Requests.{expects, flow_of, is_head, judged}
-use Rattle.px_exchange.specs.declared.asked.Judged.{Judged}
-use Rattle.px_exchange.specs.declared.asked.Judged.TheVariants.{Refused, Accepted, Connects}
+use Rattle.px_stream.specs.declared.reading.FinalHead.{FinalHead}
+use Rattle.px_stream.specs.declared.reading.FinalHead.TheVariants as answer
+use Rattle.px_stream.specs.Looks.{AnswerFound, BodyFound, HeadFound, HeadRead, LookedAt, LookFound, ReadsMore, ReturnFound, answer_gives, answer_phase, body_gives, body_phase, head_phase, is_over, judged_phase, relayed_phase, relays, returned_gives, returned_phase, unless_left, where_left}
+use Rattle.px_stream.specs.Responses.{AnswerCome}
+use Rattle.px_stream.specs.Stands.{HasPlace, HasRequest, HasSide, IsAsked, IsLast, IsLastAt, IsLink, IsOpen, IsReady, Keeps, LinkKeeps, PhaseAt, ReadsBody, ReadsFinal, ReadsLink, ReadsReturn, StaysOpen, answer_asked, asked_in, body_asked, content_in, head_asked, judged_asked, marks_at, parked_link, returned_asked, sent_on, stage_of, used_in}
 use Rattle.px_stream.proofs.HeadLemmas.{connect_there, connect_whole, gives_at, gives_missing, look_at_head, no_connect, phase_at}
-use Rattle.px_stream.specs.Stands.{KeepsBehind, IsLastAt, IsReceiving, PhaseAt}
+use Rattle.px_stream.proofs.ShownLemmas.{BodyShown, ReturnShown, body_shown, return_shown}
+
+-- the server of the parked side
+pub parked_used : (parked : Option Parked) (seen : Sight) → used_in (parked_link parked seen) ≡ server_parked parked seen
+parked_used None seen = refl
+parked_used (Some parked) seen = refl
 
 -- ---- from what is found to where the flow is
 
--- the same over what is found
-pub at_look : (terms : Terms) (stage : Stage) (seen : Sight) (requests : State) (is_now : Phase) (before out longer more : List Command) (l : Look Command) →
-    look terms stage seen ≡ l → longer ≡ out ++ more → before ++ more ≡ so_far stage seen ++ found_with (behind stage seen) l → PhaseAt l terms requests is_now stage seen →
-    LookedAt terms stage seen requests is_now before out longer
-at_look terms stage seen requests is_now before out longer more l is grown owes there =
-    let P : Look Command → Type 0 = λ k. before ++ more ≡ so_far stage seen ++ found_with (behind stage seen) k in
-    let Q : Look Command → Type 0 = λ k. PhaseAt k terms requests is_now stage seen in
-    record { more = more; grown = grown; owes = subst P (sym is) owes; phase = subst Q (sym is) there }
+module _ (terms : Terms) (at : At) (new : State) (later : Option Link) (out longer : List Command) (is_now : Phase) where
+  abbrev pub Looked : Stage → Sight → List Command → Type 0
+  Looked stage sees before = LookedAt terms at stage sees new later is_now before out longer
 
--- ---- the stages whose ask is found at once
+  at_look : (stage : Stage) (seen : Sight) (before more : List Command) (l : Look Command) → look terms stage seen ≡ l → longer ≡ out ++ more →
+      before ++ more ≡ so_far stage seen ++ found_with (behind stage seen) l → PhaseAt l terms at new later is_now stage seen → Looked stage seen before
+  at_look stage seen before more l is grown owes there =
+      let P : Look Command → Type 0 = λ k. before ++ more ≡ so_far stage seen ++ found_with (behind stage seen) k in
+      let Q : Look Command → Type 0 = λ k. PhaseAt k terms at new later is_now stage seen in
+      record { more = more; grown = grown; owes = subst P (sym is) owes; phase = subst Q (sym is) there }
 
-module _ (terms : Terms) (seen : Sight) (requests : State) (out longer : List Command) (is_now : Phase) where
-  always_asks : (closed : Bool) (leaves : List Command) (ask : Command) → or_leaves closed leaves (Asks ask) ≡ Asks ask
-  always_asks closed leaves ask = refl
+  -- ---- a request's head
 
-  pub dial_looked : (at : At) (flow : Flow) (parked : Used) → server_parked at.parked seen ≡ parked → KeepsBehind at.used seen requests →
-      longer ≡ out ++ commands.Dial at.dials (dialled_for terms.place flow.request) None ∷ shut_server parked →
-      is_now ≡ phase.Asked (asked.Dial flow at.dials) → LookedAt terms (busy at flow connection) seen requests is_now [] out longer
-  dial_looked at flow parked same keeps grown is =
+  module _ (seen : Sight) (parked : later ≡ parked_link at.parked seen) where
+    abbrev here : Item ReadRequest
+    here = request_in seen
+
+    abbrev used : Used
+    used = server_parked at.parked seen
+
+    -- what was read, where it is known whether a CONNECT is there
+    read_as : (connects : Option Connect) → connect_in terms.place here ≡ connects → HeadRead (connect_in terms.place here) here seen.client new → HeadRead connects here seen.client new
+    read_as connects is reads = let P : Option Connect → Type 0 = λ c. HeadRead c here seen.client new in subst P is reads
+
+    -- the conversation ends, unless a CONNECT is there
+    over_by : connect_in terms.place here ≡ None → IsLastAt (connect_in terms.place here) seen new ready.Over
+    over_by is = let P : Option Connect → Type 0 = λ c. IsLastAt c seen new ready.Over in subst P (sym is) refl
+
+    finds_by : (head : ReadRequest) (made : Judged) → judged terms.place head ≡ made → head_in here ≡ Some head →
+        look terms (idle at) seen ≡ or_leaves seen.closed (shut_server used) (look_judged terms at.flow head made seen.now used seen.closed)
+    finds_by head made accepts stands =
+        ap (or_leaves seen.closed (shut_server used)) (look_at_head terms at.flow here head seen.now used seen.closed stands ∙ ap (λ j. look_judged terms at.flow head j seen.now used seen.closed) accepts)
+
+    judged_by : (head : ReadRequest) (made : Judged) → judged terms.place head ≡ made → head_in here ≡ Some head → HeadRead (connect_in terms.place here) here seen.client new →
+        longer ≡ out ++ found (look_judged terms at.flow head made seen.now used seen.closed) → is_now ≡ judged_phase terms at.flow head made seen.now → Looked (idle at) seen []
+    judged_by head (Refused fault) accepts stands reads grown there =
+        let none : connect_in terms.place here ≡ None = no_connect terms.place here head (Refused fault) stands accepts tt in
+        at_look (idle at) seen [] (refuses fault (is_head head.method) used seen.closed) _ (finds_by head (Refused fault) accepts stands) grown refl (ready.Over, there, over_by none)
+    judged_by head (Accepted message) accepts stands reads grown there =
+        let flow : Flow = flow_of terms at.flow message seen.now in
+        let none : connect_in terms.place here ≡ None = no_connect terms.place here head (Accepted message) stands accepts tt in
+        at_look (idle at) seen [] (ask_of flow RequestHead ∷ []) _ (finds_by head (Accepted message) accepts stands) grown refl (
+          asked.Idle flow (expects head),
+          there,
+          record {
+            asks = ap (λ o. head_asked terms at o seen.now) stands ∙ ap (λ j. judged_asked terms at head j seen.now) accepts;
+            request = read_as None none reads;
+            has_side = parked;
+          },
+        )
+    judged_by head (Connects address) accepts stands reads grown there =
+        let whole = connect_whole terms.place seen.client head address stands accepts in
+        let connects : Connect = record { address = address; used = whole.0 } in
+        let found_there : connect_in terms.place here ≡ Some connects = connect_there terms.place here head whole.0 address whole.1 accepts in
+        let (rest, open_still, most) = read_as (Some connects) found_there reads in
+        let P : Option Connect → Type 0 = λ c. IsLastAt c seen new (ready.Connects address) in
+        let last : IsLastAt (Some connects) seen new (ready.Connects address) = record { phase = refl; keeps = record { rest = rest; open_still = open_still } } in
+        at_look (idle at) seen [] [] (Ends []) (finds_by head (Connects address) accepts stands) grown refl (ready.Connects address, there, subst P (sym found_there) last)
+
+    head_by : (head : ReadRequest) → head_in here ≡ Some head → HeadRead (connect_in terms.place here) here seen.client new →
+        longer ≡ out ++ found (or_leaves seen.closed (shut_server used) (look_head terms at.flow here seen.now used seen.closed)) →
+        is_now ≡ head_phase terms at.flow here seen.now seen.closed → Looked (idle at) seen []
+    head_by head stands reads grown there =
+        judged_by head (judged terms.place head) refl stands reads
+        (grown ∙ ap (λ l. out ++ l) (sym (gives_at terms at.flow here head seen.now used seen.closed stands)))
+        (there ∙ sym (phase_at terms at.flow here head seen.now seen.closed stands))
+
+    no_head_by : (shut : Bool) → seen.closed ≡ shut → here ≡ missing → Reads request [] seen.client false new →
+        longer ≡ out ++ where_left shut (shut_server used) → is_now ≡ unless_left shut ready.Idle → Looked (idle at) seen []
+    no_head_by true shut is reads grown there =
+        at_look (idle at) seen [] (shut_server used) (Ends (shut_server used)) (rw (shut, is) refl) grown refl (ready.Over, there, over_by (ap (connect_in terms.place) is))
+    no_head_by false shut is reads grown there =
+        at_look (idle at) seen [] [] NotYet (rw (shut, is) refl) grown refl (ready.Idle, [], there, record { is_stage = refl; request = reads; has_side = parked }, refl)
+
+    idle_by : (item : Item ReadRequest) → here ≡ item → HeadRead (connect_in terms.place here) here seen.client new →
+        longer ≡ out ++ found (or_leaves seen.closed (shut_server used) (look_head terms at.flow here seen.now used seen.closed)) →
+        is_now ≡ head_phase terms at.flow here seen.now seen.closed → Looked (idle at) seen []
+    idle_by missing is reads grown there =
+        let P : Item ReadRequest → Type 0 = λ i. HeadRead (connect_in terms.place i) i seen.client new in
+        no_head_by seen.closed refl is (subst P is reads)
+        (grown ∙ ap (λ l. out ++ l) (gives_missing terms at.flow here seen.now used seen.closed is))
+        (there ∙ ap (λ i. head_phase terms at.flow i seen.now seen.closed) is)
+    idle_by (part head body) is reads grown there = head_by head (ap head_in is) reads grown there
+    idle_by (complete head body trailers size) is reads grown there = head_by head (ap head_in is) reads grown there
+    idle_by (bad_body fault head body) is reads grown there = head_by head (ap head_in is) reads grown there
+    idle_by (bad_head fault) is reads grown there =
+        at_look (idle at) seen [] (refuses fault false used seen.closed) (Ends (refuses fault false used seen.closed)) (rw is refl)
+        (grown ∙ ap (λ i. out ++ found (or_leaves seen.closed (shut_server used) (look_head terms at.flow i seen.now used seen.closed))) is) refl
+        (ready.Over, there ∙ ap (λ i. head_phase terms at.flow i seen.now seen.closed) is, over_by (ap (connect_in terms.place) is))
+
+    -- ---- a request's body
+
+    given_head_by : (flow : Flow) → Keeps seen.client new → longer ≡ out ++ ask_of (with_start flow seen.now) ResponseHead ∷ [] →
+        is_now ≡ phase.Asked (asked.GivenHead (with_start flow seen.now)) → Looked (busy at flow given_head) seen []
+    given_head_by flow keeps grown there =
+        let ask : Command = ask_of (with_start flow seen.now) ResponseHead in
+        at_look (busy at flow given_head) seen [] (ask ∷ []) (Asks ask) refl grown refl
+        (asked.GivenHead (with_start flow seen.now), there, record { asks = refl; request = keeps; has_side = parked })
+
+    module _ (flow : Flow) where
+      missing_by : (given : Option Response) (head : ReadRequest) (all : List Mark) (content : List ℕ) (shut : Bool) → seen.closed ≡ shut → here ≡ part head (body_of all) →
+          content ≡ content_of all → Reads request (asks head ∷ all) seen.client false new →
+          longer ≡ out ++ where_left shut (ends_early flow closed_message seen.now used true) → is_now ≡ unless_left shut (ready.RequestBody flow given content) →
+          Looked (busy at flow (request_body given)) seen []
+      missing_by given head all content true shut is same reads grown there =
+          let owed : List Command = ends_early flow closed_message seen.now used true in
+          at_look (busy at flow (request_body given)) seen [] owed (Ends owed) (rw (shut, is) refl) grown refl (ready.Over, there, refl)
+      missing_by given head all content false shut is same reads grown there =
+          at_look (busy at flow (request_body given)) seen [] [] NotYet (rw (shut, is) refl) grown refl (
+            ready.RequestBody flow given content,
+            [],
+            there,
+            record { is_stage = refl; request = record { head = head; marks = all; is_content = same; reads = reads }; has_side = parked },
+            refl,
+          )
+
+      bad_by : (given : Option Response) (head : ReadRequest) (body : Body) (fault : Fault) → here ≡ bad_body fault head body →
+          longer ≡ out ++ ends_by_fault flow fault seen.now used seen.closed → is_now ≡ is_over → Looked (busy at flow (request_body given)) seen []
+      bad_by given head body fault is grown there =
+          let owed : List Command = ends_by_fault flow fault seen.now used seen.closed in
+          at_look (busy at flow (request_body given)) seen [] owed (Ends owed) (rw is refl) grown refl (ready.Over, there, refl)
+
+      whole_by : (head : ReadRequest) (body : Body) (trailers : List (List ℕ × List ℕ)) (size : ℕ) (content : List ℕ) → here ≡ complete head body trailers size → content ≡ body.content →
+          new.rest ≡ drop size seen.client → new.closed ≡ false → longer ≡ out ++ ask_of (with_body flow content trailers seen.now) RequestBody ∷ [] →
+          is_now ≡ phase.Asked (asked.RequestBody (with_body flow content trailers seen.now)) → Looked (busy at flow (request_body None)) seen []
+      whole_by head body trailers size content is same rest open_still grown there =
+          let told : Flow = with_body flow body.content trailers seen.now in
+          at_look (busy at flow (request_body None)) seen [] (ask_of told RequestBody ∷ []) (Asks (ask_of told RequestBody)) (rw is refl)
+          (grown ∙ ap (λ l. out ++ ask_of (with_body flow l trailers seen.now) RequestBody ∷ []) same) refl (
+            asked.RequestBody told,
+            there ∙ ap (λ l. phase.Asked (asked.RequestBody (with_body flow l trailers seen.now))) same,
+            record {
+              asks = ap (λ i. body_asked flow i seen.now) is;
+              request = record { rest = rest ∙ sym (ap (λ i. left_by i seen.client) is); open_still = open_still };
+              has_side = parked;
+            },
+          )
+
+  -- ---- where the stage is passed
+
+  module _ (seen : Sight) (flow : Flow) (parked : later ≡ parked_link at.parked seen) where
+    -- the stage and the sight, by the item there
+    abbrev PassedBy : Option Response → Item ReadRequest → Type 0
+    PassedBy None item = Looked (busy at flow (request_body None)) seen []
+    PassedBy (Some response) item = Looked (pass_body at flow (Some response) item seen.now) (record seen { client = left_by item seen.client }) []
+
+    passed_by : (given : Option Response) (item : Item ReadRequest) → request_in seen ≡ item → PassedBy given item →
+        Looked (pass (busy at flow (request_body given)) seen) (sight_past (busy at flow (request_body given)) seen) []
+    passed_by None item is looked = looked
+    passed_by (Some response) item is looked = subst (PassedBy (Some response)) (sym is) looked
+
+    stays_by : (given : Option Response) (item : Item ReadRequest) → pass_body at flow given item seen.now ≡ busy at flow (request_body given) → left_by item seen.client ≡ seen.client →
+        Looked (busy at flow (request_body given)) seen [] → PassedBy given item
+    stays_by None item same left looked = looked
+    stays_by (Some response) item same left looked =
+        let P : Stage → Type 0 = λ s. Looked s (record seen { client = left_by item seen.client }) [] in
+        let Q : List ℕ → Type 0 = λ l. Looked (busy at flow (request_body (Some response))) (record seen { client = l }) [] in
+        subst P (sym same) (subst Q (sym left) looked)
+
+    part_stays : (given : Option Response) (head : ReadRequest) (body : Body) → pass_body at flow given (part head body) seen.now ≡ busy at flow (request_body given)
+    part_stays None head body = refl
+    part_stays (Some response) head body = refl
+
+    bad_stays : (given : Option Response) (fault : Fault) (head : ReadRequest) (body : Body) → pass_body at flow given (bad_body fault head body) seen.now ≡ busy at flow (request_body given)
+    bad_stays None fault head body = refl
+    bad_stays (Some response) fault head body = refl
+
+    body_by : (given : Option Response) (head : ReadRequest) (content : List ℕ) (got : Progress) → BodyShown got head seen.client new content →
+        longer ≡ out ++ body_gives flow given got content seen.now (server_parked at.parked seen) seen.closed → is_now ≡ body_phase flow given got content seen.now seen.closed →
+        Looked (pass (busy at flow (request_body given)) seen) (sight_past (busy at flow (request_body given)) seen) []
+    body_by given head content progress.Missing (all, is, same, reads) grown there =
+        passed_by given (part head (body_of all)) is (stays_by given _ (part_stays given head (body_of all)) refl
+        (missing_by seen parked flow given head all content seen.closed refl is same reads grown there))
+    body_by given head content (progress.Bad fault) (body, is) grown there =
+        passed_by given (bad_body fault head body) is (stays_by given _ (bad_stays given fault head body) refl (bad_by seen parked flow given head body fault is grown there))
+    body_by None head content (progress.Whole trailers) (body, size, is, same, rest, more, open_still) grown there =
+        whole_by seen parked flow head body trailers size content is same rest open_still grown there
+    body_by (Some response) head content (progress.Whole trailers) (body, size, is, same, rest, more, open_still) grown there =
+        let told : List ℕ → Flow = λ l. record (with_body flow l trailers seen.now) { response = Some response } in
+        passed_by (Some response) (complete head body trailers size) is
+        (given_head_by (record seen { client = drop size seen.client }) (parked ∙ parked_same at.parked (drop size seen.client)) (told body.content) (record { rest = rest; open_still = open_still })
+        (grown ∙ ap (λ l. out ++ ask_of (with_start (told l) seen.now) ResponseHead ∷ []) same)
+        (there ∙ ap (λ l. phase.Asked (asked.GivenHead (with_start (told l) seen.now))) same))
+      where
+        parked_same : (parked : Option Parked) (client : List ℕ) → parked_link parked seen ≡ parked_link parked (record seen { client = client })
+        parked_same None client = refl
+        parked_same (Some parked) client = refl
+
+  -- ---- the head of the final response
+
+  module _ (seen : Sight) (flow : Flow) (server : ℕ) (keeps : Keeps seen.client new) where
+    abbrev heads : Stage
+    heads = busy at flow (response_head server all_sent)
+
+    abbrev final : Item ReadResponse
+    final = (answers_in flow.request seen).final
+
+    same_look : (item : Item ReadResponse) (head : ReadResponse) → head_in item ≡ Some head →
+        look_answer flow item seen.now (server_in server seen) seen.closed ≡ look_answer_head flow head seen.now (server_in server seen) seen.closed
+    same_look missing head is = absurd (let e : None ≡ Some head = is in cc)
+    same_look (part own body) head is = let e : own ≡ head = cc in rw e refl
+    same_look (complete own body trailers size) head is = let e : own ≡ head = cc in rw e refl
+    same_look (bad_head fault) head is = absurd (let e : None ≡ Some head = is in cc)
+    same_look (bad_body fault own body) head is = let e : own ≡ head = cc in rw e refl
+
+    module _ (sent more : List ReadResponse) (link : Link) (between : List Command) (open_is : later ≡ Some link) (grown : between ≡ out ++ sends_on (is_http11 flow.request.version) more)
+        (all_come : (answers_in flow.request seen).interim ≡ sent ++ more) where
+      -- what is given behind the interim responses is what is found
+      answered : (l : Look Command) → look terms heads seen ≡ l → longer ≡ between ++ found l → PhaseAt l terms at new later is_now heads seen → Looked heads seen (sent_on heads sent)
+      answered l is gives there =
+          let told : List Command = interim_commands flow.request more in
+          at_look heads seen (interim_commands flow.request sent) (told ++ found l) l is
+          (gives ∙ (ap (λ b. b ++ found l) grown ∙ append_assoc out told (found l)))
+          (sym (append_assoc (interim_commands flow.request sent) told (found l))
+          ∙ (ap (λ b. b ++ found l) (sym (commands_append flow.request sent more))
+          ∙ (ap (λ b. interim_commands flow.request b ++ found l) (sym all_come) ∙ found_behind l)))
+          there
+        where
+          found_behind : (l : Look Command) → so_far heads seen ++ found l ≡ so_far heads seen ++ found_with (behind heads seen) l
+          found_behind NotYet = refl
+          found_behind (Asks ask) = refl
+          found_behind (Ends owed) = refl
+
+      relayed_by : (head : ReadResponse) (b : Bool) → is_relayed head.code ≡ b → head_in final ≡ Some head → is_interim head ≡ false →
+          IsLink flow.request server seen (sent ++ more) (answers head ∷ []) link →
+          longer ≡ between ++ relays b flow head seen.now (server_in server seen) seen.closed → is_now ≡ relayed_phase b flow server head seen.now → Looked heads seen (sent_on heads sent)
+      relayed_by head true relayed stands is_final is_link gives there =
+          let told : Flow = with_answer flow (response_of head) seen.now in
+          let asks_now : look_answer_head flow head seen.now (server_in server seen) seen.closed ≡ Asks (ask_of told ResponseHead) = rw relayed refl in
+          let read : ReadsFinal flow.request server seen link = record { sent = sent ++ more; head = head; stands = stands; final = is_final; is_link = is_link } in
+          answered (Asks (ask_of told ResponseHead)) (ap (or_leaves seen.closed (leaving heads seen)) (same_look final head stands ∙ asks_now)) gives (
+            asked.ResponseHead told server,
+            there,
+            record {
+              asks = ap (λ o. answer_asked flow server o seen.now) stands;
+              request = keeps;
+              has_side = subst (IsOpen (ReadsFinal flow.request server seen)) (sym open_is) read;
+            },
+          )
+      relayed_by head false relayed stands is_final is_link gives there =
+          let owed : List Command = ends_by_fault flow BadResponse seen.now (server_in server seen) seen.closed in
+          let ends_now : look_answer_head flow head seen.now (server_in server seen) seen.closed ≡ Ends owed = rw relayed refl in
+          answered (Ends owed) (ap (or_leaves seen.closed (leaving heads seen)) (same_look final head stands ∙ ends_now)) gives (ready.Over, there, refl)
+
+      no_answer_by : (shut : Bool) → seen.closed ≡ shut → final ≡ missing → IsLink flow.request server seen (sent ++ more) [] link →
+          longer ≡ between ++ where_left shut (ends_early flow closed_message seen.now (server_in server seen) true) → is_now ≡ unless_left shut (ready.ResponseHead flow server) →
+          Looked heads seen (sent_on heads sent)
+      no_answer_by true shut is is_link gives there =
+          answered (Ends (ends_early flow closed_message seen.now (server_in server seen) true)) (rw (shut, is) refl) gives (ready.Over, there, refl)
+      no_answer_by false shut is is_link gives there =
+          answered NotYet (rw (shut, is) refl) gives (
+            ready.ResponseHead flow server,
+            sent ++ more,
+            there,
+            record { is_stage = refl; request = keeps; has_side = subst (IsOpen (IsLink flow.request server seen (sent ++ more) [])) (sym open_is) is_link },
+            ap (interim_commands flow.request) all_come,
+          )
+
+      bad_answer_by : (fault : Fault) → final ≡ bad_head fault → longer ≡ between ++ ends_by_fault flow fault seen.now (server_in server seen) seen.closed → is_now ≡ is_over →
+          Looked heads seen (sent_on heads sent)
+      bad_answer_by fault is gives there = answered (Ends (ends_by_fault flow fault seen.now (server_in server seen) seen.closed)) (rw is refl) gives (ready.Over, there, refl)
+
+    answer_by : (sent more : List ReadResponse) (link : Link) (between : List Command) (got : FinalHead) → later ≡ Some link → between ≡ out ++ sends_on (is_http11 flow.request.version) more →
+        AnswerCome got (is_head flow.request.method) server seen.server seen.shut (sent ++ more) link →
+        longer ≡ between ++ answer_gives flow got seen.now (server_in server seen) seen.closed → is_now ≡ answer_phase flow server got seen.now seen.closed → Looked heads seen (sent_on heads sent)
+    answer_by sent more link between (answer.Head head) open_is grown (is_link, stands, is_final, interim) gives there =
+        relayed_by sent more link between open_is grown interim head (is_relayed head.code) refl stands is_final is_link gives there
+    answer_by sent more link between (answer.Bad fault) open_is grown (is_link, is, interim) gives there = bad_answer_by sent more link between open_is grown interim fault is gives there
+    answer_by sent more link between answer.Missing open_is grown (is_link, is, interim) gives there =
+        no_answer_by sent more link between open_is grown interim seen.closed refl is is_link gives there
+
+    -- ---- the response's body
+
+    abbrev bodies : Stage
+    bodies = busy at flow (response_body server all_sent)
+
+    module _ (sent : List ReadResponse) (head : ReadResponse) (is_final : is_interim head ≡ false) (old : Link) (responses : State) (is_open : later ≡ Some (record old { responses = responses }))
+        (number : old.server ≡ server) (shut_is : old.closed ≡ seen.shut) where
+      abbrev here_shown : Progress → List ℕ → Type 0
+      here_shown got content = ReturnShown (is_head flow.request.method) server seen.server seen.shut sent head is_final got old responses content
+
+      no_return_by : (all : List Mark) (content : List ℕ) (shut : Bool) → seen.closed ≡ shut → final ≡ part head (body_of all) → content ≡ content_of all →
+          IsLink flow.request server seen sent (answers head ∷ all) (record old { responses = responses }) →
+          longer ≡ out ++ where_left shut (ends_early (without_response flow) closed_message seen.now (server_in server seen) true) →
+          is_now ≡ unless_left shut (ready.ResponseBody flow server content) → Looked bodies seen []
+      no_return_by all content true shut is same is_link grown there =
+          let owed : List Command = ends_early (without_response flow) closed_message seen.now (server_in server seen) true in
+          at_look bodies seen [] owed (Ends owed) (rw (shut, is) refl) grown refl (ready.Over, there, refl)
+      no_return_by all content false shut is same is_link grown there =
+          let read : ReadsReturn flow.request server seen content (record old { responses = responses }) =
+          record { sent = sent; head = head; marks = all; is_content = same; final = is_final; is_link = is_link } in
+          at_look bodies seen [] [] NotYet (rw (shut, is) refl) grown refl (
+            ready.ResponseBody flow server content,
+            [],
+            there,
+            record { is_stage = refl; request = keeps; has_side = subst (IsOpen (ReadsReturn flow.request server seen content)) (sym is_open) read },
+            refl,
+          )
+
+      return_by : (got : Progress) (content : List ℕ) → here_shown got content →
+          longer ≡ out ++ returned_gives flow got content seen.now (server_in server seen) seen.closed → is_now ≡ returned_phase flow server got content seen.now seen.closed → Looked bodies seen []
+      return_by progress.Missing content (all, is, same, is_link) grown there = no_return_by all content seen.closed refl is same is_link grown there
+      return_by (progress.Bad fault) content (body, is) grown there =
+          let owed : List Command = ends_by_fault flow fault seen.now (server_in server seen) seen.closed in
+          at_look bodies seen [] owed (Ends owed) (rw is refl) grown refl (ready.Over, there, refl)
+      return_by (progress.Whole trailers) content (body, size, is, same, rest) grown there =
+          let told : Flow = with_returned flow body.content trailers seen.now in
+          let left : server_left bodies seen ≡ drop ((answers_in flow.request seen).used + size) seen.server =
+          ap (λ i. left_by i (drop (answers_in flow.request seen).used seen.server)) is ∙ drop-drop size (answers_in flow.request seen).used seen.server in
+          let kept : LinkKeeps server (server_left bodies seen) seen.shut (record old { responses = responses }) = record { server = number; closed = shut_is; rest = rest ∙ sym left } in
+          at_look bodies seen [] (ask_of told ResponseBody ∷ []) (Asks (ask_of told ResponseBody)) (rw is refl)
+          (grown ∙ ap (λ l. out ++ ask_of (with_returned flow l trailers seen.now) ResponseBody ∷ []) same) refl (
+            asked.ResponseBody told server,
+            there ∙ ap (λ l. phase.Asked (asked.ResponseBody (with_returned flow l trailers seen.now) server)) same,
+            record {
+              asks = ap (λ i. returned_asked flow server i seen.now) is;
+              request = keeps;
+              has_side = subst (IsOpen (LinkKeeps server (server_left bodies seen) seen.shut)) (sym is_open) kept;
+            },
+          )
+
+-- ---- all stages
+
+-- by the moment and the closes that the sight shows
+abbrev FoundIn : Terms → At → Wanted → State → State → Option Link → Option Link → List Command → List Command → Phase → Used → ℕ → Bool → Type 0
+FoundIn terms at looked old new side later out longer is_now used moment closed = LookFound terms at used moment closed looked old new side later out longer is_now
+
+found_in : (terms : Terms) (at : At) (looked : Wanted) (old new : State) (side later : Option Link) (out longer : List Command) (is_now : Phase) (used there : Used) (moment now : ℕ) (closed shut : Bool) →
+    used ≡ there → moment ≡ now → closed ≡ shut → FoundIn terms at looked old new side later out longer is_now used moment closed →
+    FoundIn terms at looked old new side later out longer is_now there now shut
+found_in terms at looked old new side later out longer is_now used there moment now closed shut one two three is =
+    subst (λ u. FoundIn terms at looked old new side later out longer is_now u now shut) one
+    (subst (λ m. FoundIn terms at looked old new side later out longer is_now used m shut) two
+    (subst (λ c. FoundIn terms at looked old new side later out longer is_now used moment c) three is))
+
+keeps_same : (bytes : List ℕ) (old new : State) → new ≡ old → Keeps bytes old → Keeps bytes new
+keeps_same bytes old new same keeps = subst (Keeps bytes) (sym same) keeps
+
+-- One look, in the sight that the stage that is looked at sees.
+module _ (terms : Terms) (at : At) (seen : Sight) (old new : State) (side later : Option Link) (moment : ℕ) (closed : Bool) (out longer : List Command) (is_now : Phase) (sent : List ReadResponse) (now : moment ≡ seen.now) where
+  -- where the stage is passed, and the flow is there
+  abbrev pub Advanced : Stage → Type 0
+  Advanced stage = LookedAt terms at (pass stage seen) (sight_past stage seen) new later is_now (sent_on stage sent) out longer
+
+  -- the server of an open side is that of the stage
+  open_used : (server : ℕ) (link : Link) → link.server ≡ server → link.closed ≡ seen.shut → used_in (Some link) ≡ server_in server seen
+  open_used server link one two = rw (one, two) refl
+
+  answer_looked : (flow : Flow) (server : ℕ) (old_side new_side : Option Link) → new ≡ old → old_side ≡ side → new_side ≡ later → Keeps seen.client old → closed ≡ seen.closed →
+      IsOpen (IsLink flow.request server seen sent []) old_side → AnswerFound flow server old_side new_side moment (used_in old_side) closed out longer is_now →
+      Advanced (busy at flow (response_head server all_sent))
+  answer_looked flow server None new_side same was is keeps shut is_open it = absurd is_open
+  answer_looked flow server (Some link) None same was is keeps shut is_open it = absurd it.read
+  answer_looked flow server (Some link) (Some further) same was is keeps shut is_open it =
+      let read = it.read (is_head flow.request.method) server seen.server seen.shut sent is_open in
+      let used : used_in (Some link) ≡ server_in server seen = open_used server link is_open.server is_open.closed in
+      answer_by terms at new later out longer is_now seen flow server (keeps_same seen.client old new same keeps) sent read.more further it.between it.got (sym is) read.grown read.come
+      (it.gives ∙ (ap (λ m. it.between ++ answer_gives flow it.got m (used_in (Some link)) closed) now
+      ∙ (ap (λ u. it.between ++ answer_gives flow it.got seen.now u closed) used ∙ ap (λ c. it.between ++ answer_gives flow it.got seen.now (server_in server seen) c) shut)))
+      (it.phase ∙ (ap (λ m. answer_phase flow server it.got m closed) now ∙ ap (λ c. answer_phase flow server it.got seen.now c) shut))
+
+  return_looked : (flow : Flow) (server : ℕ) (content : List ℕ) (old_side new_side : Option Link) → new ≡ old → new_side ≡ later → Keeps seen.client old → closed ≡ seen.closed →
+      IsOpen (ReadsReturn flow.request server seen content) old_side → ReturnFound flow server content old_side new_side moment (used_in old_side) closed out longer is_now →
+      Advanced (busy at flow (response_body server all_sent))
+  return_looked flow server content None new_side same is keeps shut is_open it = absurd is_open
+  return_looked flow server content (Some link) None same is keeps shut is_open it = absurd it.read
+  return_looked flow server content (Some link) (Some further) same is keeps shut is_open it =
+      let used : used_in (Some link) ≡ server_in server seen = open_used server link is_open.is_link.server is_open.is_link.closed in
+      let shown = return_shown (is_head flow.request.method) server seen.server seen.shut is_open.sent is_open.head is_open.final it.got is_open.marks link further.responses content it.body
+      is_open.is_link is_open.is_content it.read.read in
+      return_by terms at new later out longer is_now seen flow server (keeps_same seen.client old new same keeps) is_open.sent is_open.head is_open.final link further.responses
+      (sym is ∙ ap Some it.read.same) is_open.is_link.server is_open.is_link.closed it.got it.body shown
+      (it.gives ∙ (ap (λ m. out ++ returned_gives flow it.got it.body m (used_in (Some link)) closed) now
+      ∙ (ap (λ u. out ++ returned_gives flow it.got it.body seen.now u closed) used ∙ ap (λ c. out ++ returned_gives flow it.got it.body seen.now (server_in server seen) c) shut)))
+      (it.phase ∙ (ap (λ m. returned_phase flow server it.got it.body m closed) now ∙ ap (λ c. returned_phase flow server it.got it.body seen.now c) shut))
+
+  -- a parked side stays, and its server is the one that is seen
+  parked_looked : (looked : Wanted) → side ≡ parked_link at.parked seen → closed ≡ seen.closed → LookFound terms at (used_in side) moment closed looked old new side later out longer is_now →
+      LookFound terms at (server_parked at.parked seen) seen.now seen.closed looked old new side later out longer is_now
+  parked_looked looked parked shut it =
+      found_in terms at looked old new side later out longer is_now (used_in side) (server_parked at.parked seen) moment seen.now closed seen.closed
+      (ap used_in parked ∙ parked_used at.parked seen) now shut it
+
+  advanced_by : (looked : Wanted) → HasRequest (stage_of at looked) seen (content_in looked) old → HasSide (stage_of at looked) seen sent (content_in looked) side →
+      HasPlace (stage_of at looked) seen at closed → LookFound terms at (used_in side) moment closed looked old new side later out longer is_now → Advanced (stage_of at looked)
+  advanced_by ready.Idle reads parked place it =
+      let (same, head) = parked_looked ready.Idle parked place.client it in
+      idle_by terms at new later out longer is_now seen (same ∙ parked) (request_in seen) refl (head.reads seen.client reads) (head.gives seen.client reads) (head.phase seen.client reads)
+  advanced_by (ready.RequestBody flow given content) reads parked place it =
+      let (same, body) = parked_looked (ready.RequestBody flow given content) parked place.client it in
+      body_by terms at new later out longer is_now seen flow (same ∙ parked) given reads.head body.body body.got
+      (body_shown body.got reads.head reads.marks seen.client old new content body.body reads.reads reads.is_content body.read) body.gives body.phase
+  advanced_by (ready.Connection flow) keeps parked place it =
+      let (same, once) = parked_looked (ready.Connection flow) parked place.client it in
       let dial : Command = commands.Dial at.dials (dialled_for terms.place flow.request) None in
-      at_look terms (busy at flow connection) seen requests is_now [] out longer (dial ∷ shut_server parked) (Asks dial)
-      refl grown (ap (λ u. dial ∷ shut_server u) (sym same)) (asked.Dial flow at.dials, is, record { phase = refl; keeps = keeps })
+      at_look terms at new later out longer is_now (busy at flow connection) seen [] (dial ∷ shut_server (server_parked at.parked seen)) (Asks dial) refl once.gives refl
+      (asked.Connection flow at.dials, once.phase, record { asks = refl; request = keeps_same seen.client old new once.same keeps; has_side = same ∙ parked })
+  advanced_by (ready.ResponseHead flow server) keeps is_open place (same, it) = answer_looked flow server side later same refl refl keeps place.client is_open it
+  advanced_by (ready.ResponseBody flow server content) keeps is_open place (same, it) = return_looked flow server content side later same refl keeps place.client is_open it
+  advanced_by (ready.Upgraded flow server) keeps is_open place (same, once) =
+      at_look terms at new later out longer is_now (busy at flow (upgraded server)) seen [] [] (Ends []) refl once.gives refl
+      (ready.Upgraded flow server, once.phase, record { phase = refl; keeps = keeps_same seen.client old new once.same keeps; is_open = subst (IsOpen (LinkKeeps server seen.server seen.shut)) (sym same) is_open })
+  advanced_by (ready.GivenHead flow) keeps parked place it =
+      let (same, once) = parked_looked (ready.GivenHead flow) parked place.client it in
+      given_head_by terms at new later out longer is_now seen (same ∙ parked) flow (keeps_same seen.client old new once.same keeps) once.gives once.phase
+  advanced_by (ready.GivenBody flow) keeps parked place it =
+      let (same, once) = parked_looked (ready.GivenBody flow) parked place.client it in
+      let ask : Command = ask_of (with_end flow seen.now) ResponseBody in
+      at_look terms at new later out longer is_now (busy at flow given_body) seen [] (ask ∷ []) (Asks ask) refl once.gives refl
+      (asked.GivenBody (with_end flow seen.now), once.phase, record { asks = refl; request = keeps_same seen.client old new once.same keeps; has_side = same ∙ parked })
+  advanced_by (ready.Connects address) none is_open place it = absurd none
+  advanced_by ready.Over keeps is_open place (same, once) =
+      at_look terms at new later out longer is_now over seen [] [] (Ends []) refl once.gives refl (ready.Over, once.phase, refl)
 
-  pub given_head_looked : (at : At) (flow : Flow) (moment : ℕ) → moment ≡ seen.now → KeepsBehind at.used seen requests →
-      longer ≡ out ++ ask_of (with_start flow moment) ResponseHead ∷ [] → is_now ≡ phase.Asked (asked.GivenHead (with_start flow moment)) →
-      LookedAt terms (busy at flow given_head) seen requests is_now [] out longer
-  given_head_looked at flow moment now keeps grown is =
-      at_look terms (busy at flow given_head) seen requests is_now [] out longer (ask_of (with_start flow seen.now) ResponseHead ∷ []) (Asks (ask_of (with_start flow seen.now) ResponseHead))
-      refl (grown ∙ ap (λ m. out ++ ask_of (with_start flow m) ResponseHead ∷ []) now) refl
-      (asked.GivenHead (with_start flow seen.now), is ∙ ap (λ m. phase.Asked (asked.GivenHead (with_start flow m))) now, record { phase = refl; keeps = keeps })
-
-  pub given_body_looked : (at : At) (flow : Flow) (moment : ℕ) → moment ≡ seen.now → KeepsBehind at.used seen requests →
-      longer ≡ out ++ ask_of (with_end flow moment) ResponseBody ∷ [] → is_now ≡ phase.Asked (asked.GivenBody (with_end flow moment)) →
-      LookedAt terms (busy at flow given_body) seen requests is_now [] out longer
-  given_body_looked at flow moment now keeps grown is =
-      at_look terms (busy at flow given_body) seen requests is_now [] out longer (ask_of (with_end flow seen.now) ResponseBody ∷ []) (Asks (ask_of (with_end flow seen.now) ResponseBody))
-      refl (grown ∙ ap (λ m. out ++ ask_of (with_end flow m) ResponseBody ∷ []) now) refl
-      (asked.GivenBody (with_end flow seen.now), is ∙ ap (λ m. phase.Asked (asked.GivenBody (with_end flow m))) now, record { phase = refl; keeps = keeps })
-
--- ---- the request's body
-
--- what was read of it, as the item that stands there
-abbrev pub BodyShown : Progress → ReadRequest → List ℕ → State → List ℕ → Type 0
-BodyShown progress.Missing head fed new longer =
-    (all : List Mark) × (request_item fed ≡ part head (body_of all)) × (longer ≡ content_of all) × Reads request (asks head ∷ all) fed false new
-BodyShown (progress.Whole trailers) head fed new longer =
-    (body : Body) × (used : ℕ) × (request_item fed ≡ complete head body trailers used) × (longer ≡ body.content) × (new.rest ≡ drop used fed) × (used ≤ length fed) × (new.closed ≡ false)
-BodyShown (progress.Bad fault) head fed new longer = (body : Body) × (request_item fed ≡ bad_body fault head body)
-
-pub body_shown : (got : Progress) (head : ReadRequest) (marks : List Mark) (fed : List ℕ) (old new : State) (content longer : List ℕ) →
-    Reads request (asks head ∷ marks) fed false old → content ≡ content_of marks → HasRead got old content new longer → BodyShown got head fed new longer
-body_shown progress.Missing head marks fed old new content longer reads is read =
-    let m = read.collects.marks in
-    let come = read.come request (asks head ∷ marks) fed false reads in (
-      marks ++ m,
-      ap (λ (r : Reading). request_told r.marks r.finish) come,
-      read.collects.grown ∙ (ap (λ l. l ++ content_of m) is ∙ sym (flat_map-append content_in marks m)),
-      read.collects.reads request (asks head ∷ marks) fed false reads,
-    )
-body_shown (progress.Whole trailers) head marks fed old new content longer reads is read =
-    let m = read.collects.marks in
-    let come = read.come request (asks head ∷ marks) fed false reads in
-    let after = read.collects.reads request (asks head ∷ marks) fed false reads in (
-      body_of (marks ++ m),
-      come.0,
-      ap (λ (r : Reading). request_told r.marks r.finish) come.1,
-      read.collects.grown ∙ (ap (λ l. l ++ content_of m) is ∙ sym (flat_map-append content_in marks m)),
-      come.2,
-      come.3,
-      after.closed,
-    )
-body_shown (progress.Bad fault) head marks fed old new content longer reads is read =
-    let m = read.collects.marks in
-    let come = read.come request (asks head ∷ marks) fed false reads in
-    (body_of (marks ++ m), ap (λ (r : Reading). request_told r.marks r.finish) come)
-
-module _ (terms : Terms) (at : At) (flow : Flow) (seen : Sight) (requests : State) (out longer : List Command) (is_now : Phase) where
-  abbrev waiting : Used
-  waiting = server_parked at.parked seen
-
-  -- the stage, where the item is known
-  body_stays : (given : Option Response) (item : Item ReadRequest) → request_in at seen ≡ item → ((response : Response) → given ≡ Some response → pass_body at flow given item seen.now ≡ busy at flow (request_body given)) →
-      (pass (busy at flow (request_body given)) seen) ≡ busy at flow (request_body given)
-  body_stays None item is stays = refl
-  body_stays (Some response) item is stays = ap (λ i. pass_body at flow (Some response) i seen.now) is ∙ stays response refl
-
-  missing_by : (given : Option Response) (head : ReadRequest) (all : List Mark) (content : List ℕ) (shut : Bool) → seen.closed ≡ shut → request_in at seen ≡ part head (body_of all) →
-      content ≡ content_of all → Reads request (asks head ∷ all) (drop at.used seen.client) false requests →
-      longer ≡ out ++ where_left shut (ends_early flow closed_message seen.now waiting true) → is_now ≡ unless_left shut (ready.Receiving flow given content) →
-      LookedAt terms (busy at flow (request_body given)) seen requests is_now [] out longer
-  missing_by given head all content true shut is same reads grown there =
-      at_look terms (busy at flow (request_body given)) seen requests is_now [] out longer (ends_early flow closed_message seen.now waiting true)
-      (Ends (ends_early flow closed_message seen.now waiting true)) (rw (shut, is) refl) grown refl (ready.Over, there, refl)
-  missing_by given head all content false shut is same reads grown there =
-      at_look terms (busy at flow (request_body given)) seen requests is_now [] out longer [] NotYet (rw (shut, is) refl) grown refl (
-        ready.Receiving flow given content,
-        [],
-        there,
-        record { head = head; marks = all; phase = ap (λ l. ready.Receiving flow given l) same; reads = reads },
-        refl,
-      )
-
-  bad_by : (given : Option Response) (head : ReadRequest) (body : Body) (fault : Fault) → request_in at seen ≡ bad_body fault head body →
-      longer ≡ out ++ ends_by_fault flow fault seen.now waiting seen.closed → is_now ≡ is_over →
-      LookedAt terms (busy at flow (request_body given)) seen requests is_now [] out longer
-  bad_by given head body fault is grown there =
-      at_look terms (busy at flow (request_body given)) seen requests is_now [] out longer (ends_by_fault flow fault seen.now waiting seen.closed)
-      (Ends (ends_by_fault flow fault seen.now waiting seen.closed)) (rw is refl) grown refl (ready.Over, there, refl)
-
-  behind_bytes_used : (used : ℕ) → requests.rest ≡ drop used (drop at.used seen.client) → requests.closed ≡ false → KeepsBehind (at.used + used) seen requests
-  behind_bytes_used used rest open_still = record { rest = rest ∙ drop-drop used at.used seen.client; open_still = open_still }
-
-  within_used : (used : ℕ) → at.used ≤ length seen.client → used ≤ length (drop at.used seen.client) → at.used + used ≤ length seen.client
-  within_used used before more = let l = length-drop at.used seen.client in omega arith
-
-  whole_by : (head : ReadRequest) (body : Body) (trailers : List (List ℕ × List ℕ)) (used : ℕ) (content : List ℕ) → request_in at seen ≡ complete head body trailers used → content ≡ body.content →
-      requests.rest ≡ drop used (drop at.used seen.client) → requests.closed ≡ false → at.used ≤ length seen.client → used ≤ length (drop at.used seen.client) →
-      longer ≡ out ++ ask_of (with_body flow content trailers seen.now) RequestBody ∷ [] →
-      is_now ≡ phase.Asked (asked.Body (with_body flow content trailers seen.now)) → LookedAt terms (busy at flow (request_body None)) seen requests is_now [] out longer
-  whole_by head body trailers used content is same rest open_still before more grown there =
-      let told : Flow = with_body flow body.content trailers seen.now in
-      at_look terms (busy at flow (request_body None)) seen requests is_now [] out longer (ask_of told RequestBody ∷ []) (Asks (ask_of told RequestBody)) (rw is refl)
-      (grown ∙ ap (λ l. out ++ ask_of (with_body flow l trailers seen.now) RequestBody ∷ []) same) refl (
-        asked.Body told,
-        there ∙ ap (λ l. phase.Asked (asked.Body (with_body flow l trailers seen.now))) same,
-        record {
-          head = head;
-          body = body;
-          trailers = trailers;
-          used = used;
-          stands = is;
-          phase = refl;
-          keeps = behind_bytes_used used rest open_still;
-          within = within_used used before more;
-        },
-      )
-
-at_stage : (terms : Terms) (one other : Stage) (seen : Sight) (requests : State) (is_now : Phase) (before out longer : List Command) → other ≡ one →
-    LookedAt terms one seen requests is_now before out longer → LookedAt terms other seen requests is_now before out longer
-at_stage terms one other seen requests is_now before out longer same looked =
-    let P : Stage → Type 0 = λ s. LookedAt terms s seen requests is_now before out longer in subst P (sym same) looked
-
--- what the flow gives by how the body stands, where the stage is passed
-body_looked_by : (terms : Terms) (at : At) (flow : Flow) (given : Option Response) (seen : Sight) (new : State) (out longer : List Command) (is_now : Phase) (head : ReadRequest) (content : List ℕ)
-    (got : Progress) → at.used ≤ length seen.client → BodyShown got head (drop at.used seen.client) new content →
-    longer ≡ out ++ body_gives flow given got content seen.now (server_parked at.parked seen) seen.closed →
-    is_now ≡ body_phase flow given got content seen.now seen.closed →
-    LookedAt terms (pass (busy at flow (request_body given)) seen) seen new is_now [] out longer
-body_looked_by terms at flow given seen new out longer is_now head content progress.Missing within (all, is, same, reads) grown there =
-    at_stage terms (busy at flow (request_body given)) _ seen new is_now [] out longer
-    (body_stays terms at flow seen new out longer is_now given (part head (body_of all)) is (λ response _. rest_by given))
-    (missing_by terms at flow seen new out longer is_now given head all content seen.closed refl is same reads grown there)
-  where
-    rest_by : (given : Option Response) → pass_body at flow given (part head (body_of all)) seen.now ≡ busy at flow (request_body given)
-    rest_by None = refl
-    rest_by (Some response) = refl
-body_looked_by terms at flow given seen new out longer is_now head content (progress.Bad fault) within (body, is) grown there =
-    at_stage terms (busy at flow (request_body given)) _ seen new is_now [] out longer
-    (body_stays terms at flow seen new out longer is_now given (bad_body fault head body) is (λ response _. rest_by given))
-    (bad_by terms at flow seen new out longer is_now given head body fault is grown there)
-  where
-    rest_by : (given : Option Response) → pass_body at flow given (bad_body fault head body) seen.now ≡ busy at flow (request_body given)
-    rest_by None = refl
-    rest_by (Some response) = refl
-body_looked_by terms at flow None seen new out longer is_now head content (progress.Whole trailers) within (body, used, is, same, rest, more, open_still) grown there =
-    whole_by terms at flow seen new out longer is_now head body trailers used content is same rest open_still within more grown there
-body_looked_by terms at flow (Some response) seen new out longer is_now head content (progress.Whole trailers) within (body, used, is, same, rest, more, open_still) grown there =
-    let moment : ℕ = seen.now in
-    let behind : At = used_more at used in
-    let told : Flow = record (with_body flow body.content trailers moment) { response = Some response } in
-    at_stage terms (busy behind told given_head) _ seen new is_now [] out longer
-    (ap (λ i. pass_body at flow (Some response) i moment) is)
-    (given_head_looked terms seen new out longer is_now behind told moment refl
-    (behind_bytes_used terms at flow seen new out longer is_now used rest open_still)
-    (grown ∙ ap (λ l. out ++ ask_of (with_start (record (with_body flow l trailers moment) { response = Some response }) moment) ResponseHead ∷ []) same)
-    (there ∙ ap (λ l. phase.Asked (asked.GivenHead (with_start (record (with_body flow l trailers moment) { response = Some response }) moment))) same))
-
-pub receiving_looked : (terms : Terms) (at : At) (flow : Flow) (given : Option Response) (seen : Sight) (old new : State) (content : List ℕ) (moment : ℕ) (parked : Used) (closed : Bool)
-    (out longer : List Command) (is_now : Phase) → at.used ≤ length seen.client → moment ≡ seen.now → server_parked at.parked seen ≡ parked → closed ≡ seen.closed →
-    IsReceiving at seen old flow given (ready.Receiving flow given content) → BodyFound flow given content old new moment parked closed out longer is_now →
-    LookedAt terms (pass (busy at flow (request_body given)) seen) seen new is_now [] out longer
-receiving_looked terms at flow given seen old new content moment parked closed out longer is_now within now used shut is looked =
-    let same : content ≡ content_of is.marks = (let e : ready.Receiving flow given content ≡ ready.Receiving flow given (content_of is.marks) = is.phase in cc) in
-    let shown = body_shown looked.got is.head is.marks (drop at.used seen.client) old new content looked.body is.reads same looked.read in
-    let P : ℕ → Bool → Type 0 = λ m b. (longer ≡ out ++ body_gives flow given looked.got looked.body m (server_parked at.parked seen) b) × (is_now ≡ body_phase flow given looked.got looked.body m b) in
-    let U : Used → Type 0 = λ u. longer ≡ out ++ body_gives flow given looked.got looked.body moment u closed in
-    let Q : ℕ → Type 0 = λ m. P m closed in
-    let R : Bool → Type 0 = λ b. P seen.now b in
-    let both : P seen.now seen.closed = subst R shut (subst Q now (subst U (sym used) looked.gives, looked.phase)) in
-    body_looked_by terms at flow given seen new out longer is_now is.head looked.body looked.got within shown both.0 both.1
-
--- ---- a request's head
-
-module _ (terms : Terms) (at : At) (seen : Sight) (requests : State) (out longer : List Command) (is_now : Phase) where
-  abbrev here : Item ReadRequest
-  here = request_in at seen
-
-  abbrev parked : Used
-  parked = server_parked at.parked seen
-
-  abbrev fed : List ℕ
-  fed = drop at.used seen.client
-
-  -- what was read, where it is known whether a CONNECT is there
-  read_as : (connects : Option Connect) → connect_in terms.place here ≡ connects → HeadRead (connect_in terms.place here) here fed requests → HeadRead connects here fed requests
-  read_as connects is reads = let P : Option Connect → Type 0 = λ c. HeadRead c here fed requests in subst P is reads
-
-  -- the conversation ends, unless a CONNECT is there
-  over_by : connect_in terms.place here ≡ None → IsLastAt (connect_in terms.place here) at seen requests ready.Over
-  over_by is = let P : Option Connect → Type 0 = λ c. IsLastAt c at seen requests ready.Over in subst P (sym is) refl
-
-  finds_by : (head : ReadRequest) (made : Judged) → judged terms.place head ≡ made → head_in here ≡ Some head →
-      look terms (idle at) seen ≡ or_leaves seen.closed (shut_server parked) (look_judged terms at.flow head made seen.now parked seen.closed)
-  finds_by head made accepts stands =
-      ap (or_leaves seen.closed (shut_server parked)) (look_at_head terms at.flow here head seen.now parked seen.closed stands ∙ ap (λ j. look_judged terms at.flow head j seen.now parked seen.closed) accepts)
-
-  tunnel_by : (head : ReadRequest) (address : Address) (used : ℕ) → judged terms.place head ≡ Connects address → head_in here ≡ Some head → here ≡ complete head no_body [] used → at.used ≤ length seen.client →
-      HeadRead (connect_in terms.place here) here fed requests → longer ≡ out ++ [] → is_now ≡ phase.Ready (ready.Connects address) → LookedAt terms (idle at) seen requests is_now [] out longer
-  tunnel_by head address used accepts stands whole within reads grown there =
-      let connects : Connect = record { address = address; used = used } in
-      let found_there : connect_in terms.place here ≡ Some connects = connect_there terms.place here head used address whole accepts in
-      let (rest, open_still, most) = read_as (Some connects) found_there reads in
-      let P : Option Connect → Type 0 = λ c. IsLastAt c at seen requests (ready.Connects address) in
-      let last : IsLastAt (Some connects) at seen requests (ready.Connects address) = record {
-        phase = refl;
-        keeps = record { rest = rest ∙ drop-drop used at.used seen.client; open_still = open_still };
-        within = (let l = length-drop at.used seen.client in omega arith);
-      } in
-      at_look terms (idle at) seen requests is_now [] out longer [] (Ends []) (finds_by head (Connects address) accepts stands) grown refl
-      (ready.Connects address, there, subst P (sym found_there) last)
-
-  judged_by : (head : ReadRequest) (made : Judged) → judged terms.place head ≡ made → head_in here ≡ Some head → at.used ≤ length seen.client → HeadRead (connect_in terms.place here) here fed requests →
-      longer ≡ out ++ found (look_judged terms at.flow head made seen.now parked seen.closed) →
-      is_now ≡ judged_phase terms at.flow head made seen.now → LookedAt terms (idle at) seen requests is_now [] out longer
-  judged_by head (Refused fault) accepts stands within reads grown there =
-      let none : connect_in terms.place here ≡ None = no_connect terms.place here head (Refused fault) stands accepts tt in
-      at_look terms (idle at) seen requests is_now [] out longer (refuses fault (is_head head.method) parked seen.closed) _ (finds_by head (Refused fault) accepts stands) grown refl
-      (ready.Over, there, over_by none)
-  judged_by head (Accepted message) accepts stands within reads grown there =
-      let flow : Flow = flow_of terms at.flow message seen.now in
-      let none : connect_in terms.place here ≡ None = no_connect terms.place here head (Accepted message) stands accepts tt in
-      let P : Option ReadRequest → Type 0 = λ o. Reads request (marks_at o) fed false requests in
-      at_look terms (idle at) seen requests is_now [] out longer (ask_of flow RequestHead ∷ []) _ (finds_by head (Accepted message) accepts stands) grown refl (
-        asked.Head flow (expects head),
-        there,
-        record { head = head; message = message; stands = stands; accepts = accepts; phase = refl; reads = subst P stands (read_as None none reads) },
-      )
-  judged_by head (Connects address) accepts stands within reads grown there =
-      let whole = connect_whole terms.place fed head address stands accepts in
-      tunnel_by head address whole.0 accepts stands whole.1 within reads grown there
-
-  head_by : (head : ReadRequest) → head_in here ≡ Some head → at.used ≤ length seen.client → HeadRead (connect_in terms.place here) here fed requests →
-      longer ≡ out ++ found (or_leaves seen.closed (shut_server parked) (look_head terms at.flow here seen.now parked seen.closed)) →
-      is_now ≡ head_phase terms at.flow here seen.now seen.closed → LookedAt terms (idle at) seen requests is_now [] out longer
-  head_by head stands within reads grown there =
-      judged_by head (judged terms.place head) refl stands within reads
-      (grown ∙ ap (λ l. out ++ l) (sym (gives_at terms at.flow here head seen.now parked seen.closed stands)))
-      (there ∙ sym (phase_at terms at.flow here head seen.now seen.closed stands))
-
-  no_head_by : (shut : Bool) → seen.closed ≡ shut → here ≡ missing → Reads request [] fed false requests →
-      longer ≡ out ++ where_left shut (shut_server parked) → is_now ≡ unless_left shut ready.Idle → LookedAt terms (idle at) seen requests is_now [] out longer
-  no_head_by true shut is reads grown there =
-      at_look terms (idle at) seen requests is_now [] out longer (shut_server parked) (Ends (shut_server parked)) (rw (shut, is) refl) grown refl (ready.Over, there, over_by (ap (connect_in terms.place) is))
-  no_head_by false shut is reads grown there =
-      at_look terms (idle at) seen requests is_now [] out longer [] NotYet (rw (shut, is) refl) grown refl
-      (ready.Idle, [], there, record { phase = refl; reads = reads }, refl)
-
-  idle_by : (item : Item ReadRequest) → here ≡ item → at.used ≤ length seen.client → HeadRead (connect_in terms.place here) here fed requests →
-      longer ≡ out ++ found (or_leaves seen.closed (shut_server parked) (look_head terms at.flow here seen.now parked seen.closed)) →
-      is_now ≡ head_phase terms at.flow here seen.now seen.closed → LookedAt terms (idle at) seen requests is_now [] out longer
-  idle_by missing is within reads grown there =
-      let P : Item ReadRequest → Type 0 = λ i. HeadRead (connect_in terms.place i) i fed requests in
-      no_head_by seen.closed refl is (subst P is reads)
-      (grown ∙ ap (λ l. out ++ l) (gives_missing terms at.flow here seen.now parked seen.closed is))
-      (there ∙ ap (λ i. head_phase terms at.flow i seen.now seen.closed) is)
-  idle_by (part head body) is within reads grown there = head_by head (ap head_in is) within reads grown there
-  idle_by (complete head body trailers used) is within reads grown there = head_by head (ap head_in is) within reads grown there
-  idle_by (bad_body fault head body) is within reads grown there = head_by head (ap head_in is) within reads grown there
-  idle_by (bad_head fault) is within reads grown there =
-      let ends : look terms (idle at) seen ≡ Ends (refuses fault false parked seen.closed) = rw is refl in
-      at_look terms (idle at) seen requests is_now [] out longer (refuses fault false parked seen.closed) _ ends
-      (grown ∙ ap (λ i. out ++ found (or_leaves seen.closed (shut_server parked) (look_head terms at.flow i seen.now parked seen.closed))) is) refl
-      (ready.Over, there ∙ ap (λ i. head_phase terms at.flow i seen.now seen.closed) is, over_by (ap (connect_in terms.place) is))
-
-  pub idle_looked : (index moment : ℕ) (used : Used) (closed : Bool) → index ≡ at.flow → moment ≡ seen.now → parked ≡ used → closed ≡ seen.closed → at.used ≤ length seen.client →
-      HeadRead (connect_in terms.place here) here fed requests →
-      longer ≡ out ++ found (or_leaves closed (shut_server used) (look_head terms index here moment used closed)) →
-      is_now ≡ head_phase terms index here moment closed → LookedAt terms (idle at) seen requests is_now [] out longer
-  idle_looked index moment used closed flow now same shut within reads grown there =
-      idle_by here refl within reads
-      (grown ∙ (ap (λ n. out ++ found (or_leaves closed (shut_server used) (look_head terms n here moment used closed))) flow
-      ∙ (ap (λ m. out ++ found (or_leaves closed (shut_server used) (look_head terms at.flow here m used closed))) now
-      ∙ (ap (λ u. out ++ found (or_leaves closed (shut_server u) (look_head terms at.flow here seen.now u closed))) (sym same)
-      ∙ ap (λ b. out ++ found (or_leaves b (shut_server parked) (look_head terms at.flow here seen.now parked b))) shut))))
-      (there ∙ (ap (λ n. head_phase terms n here moment closed) flow
-      ∙ (ap (λ m. head_phase terms at.flow here m closed) now
-      ∙ ap (λ b. head_phase terms at.flow here seen.now b) shut)))
+  -- What is given is what the stage owes that is passed to, and the flow is there.
+  pub advanced : (stage : Stage) (looked : Wanted) → IsReady at old side looked stage seen sent → HasPlace stage seen at closed →
+      LookFound terms at (used_in side) moment closed looked old new side later out longer is_now → Advanced stage
+  advanced stage looked is place it =
+      let same : stage_of at looked ≡ stage = is.is_stage in
+      subst Advanced same
+      (advanced_by looked (subst (λ s. HasRequest s seen (content_in looked) old) (sym same) is.request) (subst (λ s. HasSide s seen sent (content_in looked) side) (sym same) is.has_side)
+      (subst (λ s. HasPlace s seen at closed) (sym same) place) it)

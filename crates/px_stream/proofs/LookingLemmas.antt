@@ -2,6 +2,7 @@
 use Rattle.std.proofs.Common.{◌≡◌, ℕ, Bool, false, List, [], ◌∷◌, ◌++◌, Option, Some, None, Result, Ok, Err, refl, ap, sym, subst}
 use Rattle.std.specs.Prelude.{OnOk, IfOk}
 use Rattle.std.proofs.lemmas.List.{append-nil}
+use Rattle.px_message.specs.declared.fault.Fault.{Fault}
 use Rattle.px_message.specs.declared.flow.Flow.{Flow}
 use Rattle.px_message.specs.declared.response.Response.{Response}
 use Rattle.px_event.specs.declared.command.Command.{Command}
@@ -9,7 +10,6 @@ use Rattle.px_event.specs.Chain.{found}
 use Rattle.px_read.specs.Items.{bad_head, missing, no_body, request_item}
 use Rattle.px_read.specs.Laws.{head_in}
 use Rattle.px_read.specs.Marks.{asks}
-use Rattle.px_message.specs.declared.fault.Fault.{Fault}
 use Rattle.px_read.proofs.ItemLemmas.{request_used}
 use Rattle.px_read.proofs.LawLemmas.{chunk_laws}
 use Rattle.px_read.proofs.TunnelLemmas.{connect-read}
@@ -17,27 +17,22 @@ use Rattle.px_read.specs.Reader.{request, State, Reads}
 use Rattle.px_read.specs.declared.head.RequestHead.{RequestHead}
 use Rattle.px_exchange.specs.declared.asked.Judged.{Judged}
 use Rattle.px_exchange.specs.declared.asked.Judged.TheVariants.{Refused, Accepted, Connects}
+use Rattle.px_exchange.specs.declared.body.Progress.{Progress}
 use Rattle.px_exchange.specs.declared.ending.Used.{Used}
 use Rattle.px_exchange.specs.declared.place.Place.{Place}
-use Rattle.px_exchange.specs.Requests.{judged}
-use Rattle.px_stream.specs.declared.link.Link.{Link as KeptLink}
-use Rattle.px_stream.specs.declared.phase.Phase.{Phase}
-use Rattle.px_stream.specs.declared.phase.Wanted.{Wanted}
-use Rattle.px_stream.specs.declared.reading.FinalHead.{FinalHead}
-use Rattle.px_exchange.specs.declared.body.Progress.{Progress}
-use Rattle.px_stream.specs.declared.numbers.Numbers.{Numbers}
 use Rattle.px_exchange.specs.declared.terms.Terms.{Terms}
 use Rattle.px_exchange.specs.Bodies.{HasRead}
-use Rattle.px_stream.specs.Bodies.{BodyFound, ReturnFound}
 use Rattle.px_exchange.specs.Endings.{shut_server}
 use Rattle.px_exchange.specs.Finds.{look_head, or_leaves}
+use Rattle.px_exchange.specs.Requests.{is_http11, judged}
 use Rattle.px_chain.specs.Chain.{Connect, connect_in}
-use Rattle.px_stream.specs.Looking.{BehindJudged, HeadFound, HeadRead, FoundAtOnce, LookFound, MayLook}
-use Rattle.px_stream.specs.Looks.{answer_gives, answer_phase, body_gives, body_phase, returned_gives, returned_phase}
-use Rattle.px_stream.specs.Phases.{head_phase, marks_at}
+use Rattle.px_stream.specs.declared.link.Link.{Link}
+use Rattle.px_stream.specs.declared.phase.Phase.{Phase}
+use Rattle.px_stream.specs.declared.reading.FinalHead.{FinalHead}
+use Rattle.px_stream.specs.Looks.{AnswerFound, BehindJudged, BodyFound, FoundAtOnce, HeadFound, HeadRead, ReadsMore, ReturnFound, answer_gives, answer_phase, body_gives, body_phase, head_phase, returned_gives, returned_phase}
+use Rattle.px_stream.specs.Responses.{ReadsAnswer}
+use Rattle.px_stream.specs.Stands.{StaysOpen, marks_at}
 use Rattle.px_stream.proofs.HeadLemmas.{connect_asks, connect_there, no_connect}
-use Rattle.px_exchange.specs.Requests.{is_http11}
-use Rattle.px_stream.specs.Responses.{AnswerFound, ReadsAnswer}
 
 -- ---- what the client's reader keeps of a head
 
@@ -75,43 +70,29 @@ missing_kept place fed new is reads = kept_marks place fed None new (ap head_in 
 
 -- ---- what is found
 
+-- beside what stays
+pub besides : {E X : Type 0} (result : Result Phase E) (x : X) (P : Phase → Type 0) → IfOk result P → IfOk result (λ next. (x ≡ x) × P next)
+besides (Ok next) x P is = (refl, is)
+besides (Err e) x P is = tt
+
 -- the head of a request
-pub head_looked : {E : Type 0} (result : Result Phase E) (terms : Terms) (index : ℕ) (old new : State) (moment : ℕ) (parked : Used) (closed : Bool) (out longer : List Command) →
-    ((fed : List ℕ) → Reads request [] fed false old → OnOk result (longer ≡ out ++ found (or_leaves closed (shut_server parked) (look_head terms index (request_item fed) moment parked closed)))) →
+pub head_looked : {E : Type 0} (result : Result Phase E) (side : Option Link) (terms : Terms) (index : ℕ) (old new : State) (moment : ℕ) (used : Used) (closed : Bool) (out longer : List Command) →
+    ((fed : List ℕ) → Reads request [] fed false old → OnOk result (longer ≡ out ++ found (or_leaves closed (shut_server used) (look_head terms index (request_item fed) moment used closed)))) →
     ((fed : List ℕ) → Reads request [] fed false old → IfOk result (λ next. next ≡ head_phase terms index (request_item fed) moment closed)) →
     ((fed : List ℕ) → Reads request [] fed false old → OnOk result (HeadRead (connect_in terms.place (request_item fed)) (request_item fed) fed new)) →
-    IfOk result (λ next. HeadFound terms index old new moment parked closed out longer next)
-head_looked (Ok next) terms index old new moment parked closed out longer gives phase reads = record { gives = gives; phase = phase; reads = reads }
-head_looked (Err e) terms index old new moment parked closed out longer gives phase reads = tt
+    IfOk result (λ next. (side ≡ side) × HeadFound terms index old new moment used closed out longer next)
+head_looked (Ok next) side terms index old new moment used closed out longer gives phase reads = (refl, record { gives = gives; phase = phase; reads = reads })
+head_looked (Err e) side terms index old new moment used closed out longer gives phase reads = tt
 
 -- what is given at once
-pub at_once : {E : Type 0} (result : Result Phase E) (state : State) (given : List Command) (out longer : List Command) (there : Phase) →
-    OnOk result (longer ≡ out ++ given) → IfOk result (λ next. next ≡ there) → IfOk result (λ next. FoundAtOnce state state given out longer there next)
-at_once (Ok next) state given out longer there gives phase = record { same = refl; gives = gives; phase = phase }
-at_once (Err e) state given out longer there gives phase = tt
-
--- where the client's reader is not looked at
-pub besides : {E : Type 0} (result : Result Phase E) (state : State) (P : Phase → Type 0) → IfOk result P → IfOk result (λ next. (state ≡ state) × P next)
-besides (Ok next) state P is = (refl, is)
-besides (Err e) state P is = tt
-
--- by what is looked for
-pub looked_as : {E : Type 0} (result : Result Phase E) (terms : Terms) (numbers : Numbers) (parked : Used) (looks known : Wanted) (old new : State) (moment : ℕ) (closed : Bool) (out longer : List Command) →
-    looks ≡ known → IfOk result (λ next. LookFound terms numbers parked known old new moment closed out longer next) → IfOk result (λ next. LookFound terms numbers parked looks old new moment closed out longer next)
-looked_as result terms numbers parked looks known old new moment closed out longer is looked =
-    let P : Wanted → Type 0 = λ ready. IfOk result (λ next. LookFound terms numbers parked ready old new moment closed out longer next) in
-    subst P (sym is) looked
+pub at_once : {E : Type 0} (result : Result Phase E) (side : Option Link) (state : State) (given : List Command) (out longer : List Command) (there : Phase) →
+    OnOk result (longer ≡ out ++ given) → IfOk result (λ next. next ≡ there) → IfOk result (λ next. (side ≡ side) × FoundAtOnce state state given out longer there next)
+at_once (Ok next) side state given out longer there gives phase = (refl, record { same = refl; gives = gives; phase = phase })
+at_once (Err e) side state given out longer there gives phase = tt
 
 -- nothing is given
-pub nothing_given : (state : State) (out : List Command) (there : Phase) → FoundAtOnce state state [] out out there there
-nothing_given state out there = record { same = refl; gives = sym (append-nil out); phase = refl }
-
-pub may_as : (looks known : Wanted) (requests : State) → looks ≡ known → MayLook looks requests → MayLook known requests
-may_as looks known requests is may =
-    let P : Wanted → Type 0 = λ ready. MayLook ready requests in
-    subst P is may
-
--- ---- by what the readers have come to
+pub nothing_given : (side : Option Link) (state : State) (out : List Command) (there : Phase) → (side ≡ side) × FoundAtOnce state state [] out out there there
+nothing_given side state out there = (refl, record { same = refl; gives = sym (append-nil out); phase = refl })
 
 pub body_found : {E : Type 0} (result : Result Phase E) (flow : Flow) (given : Option Response) (content body : List ℕ) (old new : State) (moment : ℕ) (parked : Used) (closed : Bool) (out longer : List Command) (got : Progress) →
     HasRead got old content new body → OnOk result (longer ≡ out ++ body_gives flow given got body moment parked closed) → IfOk result (λ next. next ≡ body_phase flow given got body moment closed) →
@@ -119,16 +100,14 @@ pub body_found : {E : Type 0} (result : Result Phase E) (flow : Flow) (given : O
 body_found (Ok next) flow given content body old new moment parked closed out longer got read gives phase = record { got = got; body = body; read = read; gives = gives; phase = phase }
 body_found (Err e) flow given content body old new moment parked closed out longer got read gives phase = tt
 
-pub return_found : {E : Type 0} (result : Result Phase E) (flow : Flow) (content body : List ℕ) (old : KeptLink) (responses : State) (moment : ℕ) (closed : Bool) (out longer : List Command) (got : Progress) →
-    HasRead got old.responses content responses body → OnOk result (longer ≡ out ++ returned_gives flow (record old { responses = responses }) got body moment closed) →
-    IfOk result (λ next. next ≡ returned_phase flow (record old { responses = responses }) got body moment closed) →
-    IfOk result (λ next. (new : KeptLink) × ReturnFound flow content old new moment closed out longer next)
-return_found (Ok next) flow content body old responses moment closed out longer got read gives phase =
-    (record old { responses = responses }, record { got = got; body = body; responses = responses; same = refl; read = read; gives = gives; phase = phase })
-return_found (Err e) flow content body old responses moment closed out longer got read gives phase = tt
+pub answer_found : {E : Type 0} (result : Result Phase E) (flow : Flow) (server : ℕ) (old new : Option Link) (moment : ℕ) (used : Used) (closed : Bool) (out between longer : List Command) (got : FinalHead) →
+    StaysOpen (λ link later. ReadsAnswer got (is_http11 flow.request.version) link out later between) old new → OnOk result (longer ≡ between ++ answer_gives flow got moment used closed) →
+    IfOk result (λ next. next ≡ answer_phase flow server got moment closed) → IfOk result (λ next. AnswerFound flow server old new moment used closed out longer next)
+answer_found (Ok next) flow server old new moment used closed out between longer got read gives phase = record { got = got; between = between; read = read; gives = gives; phase = phase }
+answer_found (Err e) flow server old new moment used closed out between longer got read gives phase = tt
 
-pub answer_found : {E : Type 0} (result : Result Phase E) (flow : Flow) (old new : KeptLink) (moment : ℕ) (closed : Bool) (out between longer : List Command) (got : FinalHead) →
-    ReadsAnswer got (is_http11 flow.request.version) old out new between → OnOk result (longer ≡ between ++ answer_gives flow new got moment closed) →
-    IfOk result (λ next. next ≡ answer_phase flow new got moment closed) → IfOk result (λ next. AnswerFound flow old moment closed out longer next)
-answer_found (Ok next) flow old new moment closed out between longer got read gives phase = record { got = got; new = new; between = between; read = read; gives = gives; phase = phase }
-answer_found (Err e) flow old new moment closed out between longer got read gives phase = tt
+pub return_found : {E : Type 0} (result : Result Phase E) (flow : Flow) (server : ℕ) (content body : List ℕ) (old new : Option Link) (moment : ℕ) (used : Used) (closed : Bool) (out longer : List Command) (got : Progress) →
+    StaysOpen (ReadsMore got content body) old new → OnOk result (longer ≡ out ++ returned_gives flow got body moment used closed) →
+    IfOk result (λ next. next ≡ returned_phase flow server got body moment closed) → IfOk result (λ next. ReturnFound flow server content old new moment used closed out longer next)
+return_found (Ok next) flow server content body old new moment used closed out longer got read gives phase = record { got = got; body = body; read = read; gives = gives; phase = phase }
+return_found (Err e) flow server content body old new moment used closed out longer got read gives phase = tt

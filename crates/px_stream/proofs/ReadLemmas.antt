@@ -14,7 +14,7 @@ use Rattle.px_read.specs.declared.head.RequestHead.{RequestHead}
 use Rattle.px_read.specs.declared.part.Part.{Part}
 use Rattle.px_read.specs.declared.part.Part.TheVariants as given
 use Rattle.px_exchange.proofs.BodyLemmas.{come}
-use Rattle.px_stream.specs.Heard.{feeds, shuts}
+use Rattle.px_stream.specs.Heard.{feeds}
 
 -- ---- one step of a reader's sender
 
@@ -36,6 +36,9 @@ follows_too false more later both = tt
 follows_too true more later both = both
 
 -- its sender closes
+abbrev pub shuts : State → State
+shuts state = record state { closed = true }
+
 pub shut_on : (message : Message) (told : List Mark) (fed : List ℕ) (closed : Bool) (state : State) → Reads message told fed closed state →
     Reads message told fed true (shuts state)
 shut_on message told fed closed state reads = record {

@@ -21,17 +21,35 @@ use Rattle.px_read.specs.Reader.{Message, MessagePlace, at_head, in_counted, in_
 use Rattle.px_read.specs.declared.head.ResponseHead.{ResponseHead}
 use Rattle.px_read.specs.declared.part.Part.{Part}
 use Rattle.px_read.specs.declared.part.Part.TheVariants as given
-use Rattle.px_stream.specs.declared.link.Link.{Link as KeptLink}
+use Rattle.px_stream.specs.declared.link.Link.{Link}
 use Rattle.px_stream.specs.declared.reading.FinalHead.{FinalHead}
 use Rattle.px_stream.specs.declared.reading.FinalHead.TheVariants as answer
 use Rattle.px_stream.specs.declared.reading.Came.TheVariants as came
 use Rattle.px_exchange.specs.Texts.{sends_on, interim_command}
-use Rattle.px_stream.specs.Responses.{came_by, came_of, fresh, GaveOne, NextBegun, IsKept, SendsOn, begun, left_of, AnswerCome, ReadsAnswer}
-use Rattle.px_stream.specs.Stands.{Passes, Keeps}
+use Rattle.px_stream.specs.Responses.{came_by, came_of, fresh, GaveOne, NextBegun, IsKept, AnswerCome, ReadsAnswer}
+use Rattle.px_stream.specs.Stands.{Passes, ReadsLink}
 use Rattle.px_stream.proofs.AnswerLemmas.{here, OfResponse, of_response, StandsThere, stands_there, final_here, nothing_here, interim_length, list_behind}
 use Rattle.px_exchange.proofs.BodyLemmas.{come}
 use Rattle.px_stream.proofs.ReadLemmas.{OfRequest, of_request}
-use Rattle.px_stream.proofs.ReturnLemmas.{final_behind, interim_behind}
+use Rattle.px_stream.proofs.PassLemmas.{final_behind, interim_behind}
+
+-- on the way from one state to another these interim responses were sent on
+pub record SentOn (sends : Bool) (asked_head : Bool) (number : ℕ) (bytes : List ℕ) (shut : Bool) (sent : List ResponseHead) (new : Link) (out longer : List Command) : Type 0 where
+  pub more : List ResponseHead
+  pub grown : longer ≡ out ++ sends_on sends more
+  pub keeps : ReadsLink asked_head number bytes shut (sent ++ more) [] new
+
+abbrev pub SendsOn : Bool → Link → List Command → Link → List Command → Type 0
+SendsOn sends old out new longer = (asked_head : Bool) (number : ℕ) (bytes : List ℕ) (shut : Bool) (sent : List ResponseHead) → ReadsLink asked_head number bytes shut sent [] old →
+    SentOn sends asked_head number bytes shut sent new out longer
+
+-- what is left to read: a response that has begun counts one more
+abbrev pub begun : MessagePlace → ℕ
+begun (at_head message) = 0
+begun _ = 1
+
+abbrev pub left_of : Link → ℕ
+left_of kept = length kept.responses.rest + begun kept.responses.place
 
 head_behind : (head : ResponseHead) (body : Body) (f : Finish) → head_in (item_behind head body f) ≡ Some head
 head_behind head body goes_on = refl
@@ -42,8 +60,8 @@ module _ (asked_head : Bool) (number : ℕ) (bytes : List ℕ) (shut : Bool) (se
   -- ---- what there is of the final response
 
   -- its reader has given these marks more
-  gave : (got : Part) (kept : KeptLink) (new : State) → (keeps : Keeps asked_head number bytes shut sent [] kept) → GaveOne got kept.responses new →
-      Keeps asked_head number bytes shut sent (marks_of got) (record kept { responses = new })
+  gave : (got : Part) (kept : Link) (new : State) → (keeps : ReadsLink asked_head number bytes shut sent [] kept) → GaveOne got kept.responses new →
+      ReadsLink asked_head number bytes shut sent (marks_of got) (record kept { responses = new })
   gave got kept new keeps gives = record {
     server = keeps.server;
     is_asked = keeps.is_asked;
@@ -54,14 +72,14 @@ module _ (asked_head : Bool) (number : ℕ) (bytes : List ℕ) (shut : Bool) (se
   }
 
   -- where no interim response stands behind those that were sent on
-  final_is : (kept : KeptLink) (keeps : Keeps asked_head number bytes shut sent [] kept) → answer_list asked_head shut keeps.fed ≡ here asked_head shut keeps.fed →
+  final_is : (kept : Link) (keeps : ReadsLink asked_head number bytes shut sent [] kept) → answer_list asked_head shut keeps.fed ≡ here asked_head shut keeps.fed →
       ((answer_list asked_head shut bytes).final ≡ response_item asked_head shut keeps.fed) × ((answer_list asked_head shut bytes).interim ≡ sent)
   final_is kept keeps is = (
     final_behind asked_head shut bytes keeps.fed sent keeps.passes ∙ ap (λ (a : Answers). a.final) is,
     interim_behind asked_head shut bytes keeps.fed sent keeps.passes ∙ (ap (λ (a : Answers). sent ++ a.interim) is ∙ append-nil sent),
   )
 
-  nothing_is : (kept : KeptLink) (keeps : Keeps asked_head number bytes shut sent [] kept) (finish : Finish) → to_come kept.responses ≡ only finish →
+  nothing_is : (kept : Link) (keeps : ReadsLink asked_head number bytes shut sent [] kept) (finish : Finish) → to_come kept.responses ≡ only finish →
       ((answer_list asked_head shut bytes).final ≡ response_told [] (behind_bytes (length keeps.reads.used) finish)) × ((answer_list asked_head shut bytes).interim ≡ sent)
   nothing_is kept keeps finish is =
       let reading : response_reading asked_head shut keeps.fed ≡ behind_marks [] (length keeps.reads.used) (only finish) =
@@ -69,7 +87,7 @@ module _ (asked_head : Bool) (number : ℕ) (bytes : List ℕ) (shut : Bool) (se
       let both = final_is kept keeps (nothing_here asked_head shut keeps.fed (ap (λ (r : Reading). r.marks) reading)) in
       (both.0 ∙ ap (λ (r : Reading). response_told r.marks r.finish) reading, both.1)
 
-  head_is : (head : ResponseHead) (kept : KeptLink) (new : State) → Keeps asked_head number bytes shut sent [] kept → IsNext (given.Response head) (to_come kept.responses) →
+  head_is : (head : ResponseHead) (kept : Link) (new : State) → ReadsLink asked_head number bytes shut sent [] kept → IsNext (given.Response head) (to_come kept.responses) →
       GaveOne (given.Response head) kept.responses new → is_interim head ≡ false → AnswerCome (answer.Head head) asked_head number bytes shut sent (record kept { responses = new })
   head_is head kept new keeps (some, (rest, is)) gives final =
       let reading = come (response asked_head) [] keeps.fed shut kept.responses keeps.reads in
@@ -80,7 +98,7 @@ module _ (asked_head : Bool) (number : ℕ) (bytes : List ℕ) (shut : Bool) (se
       let item : head_in (response_item asked_head shut keeps.fed) ≡ Some head = subst P (sym told) (head_behind head (body_of rest) (response_reading asked_head shut keeps.fed).finish) in
       (gave (given.Response head) kept new keeps gives, ap head_in both.0 ∙ item, final, both.1)
 
-  by_interim : (b : Bool) (head : ResponseHead) (kept : KeptLink) (new : State) (got : FinalHead) → is_interim head ≡ b → Keeps asked_head number bytes shut sent [] kept → IsNext (given.Response head) (to_come kept.responses) →
+  by_interim : (b : Bool) (head : ResponseHead) (kept : Link) (new : State) (got : FinalHead) → is_interim head ≡ b → ReadsLink asked_head number bytes shut sent [] kept → IsNext (given.Response head) (to_come kept.responses) →
       GaveOne (given.Response head) kept.responses new → came_by b head ≡ came.Final got → AnswerCome got asked_head number bytes shut sent (record kept { responses = new })
   by_interim true head kept new got is keeps next gives same = absurd (let e : came.Interim head ≡ came.Final got = same in cc)
   by_interim false head kept new got is keeps next gives same =
@@ -88,19 +106,19 @@ module _ (asked_head : Bool) (number : ℕ) (bytes : List ℕ) (shut : Bool) (se
       let P : FinalHead → Type 0 = λ a. AnswerCome a asked_head number bytes shut sent (record kept { responses = new }) in
       subst P e (head_is head kept new keeps next gives is)
 
-  shape : (kept : KeptLink) (keeps : Keeps asked_head number bytes shut sent [] kept) → OfResponse (to_come kept.responses).marks
+  shape : (kept : Link) (keeps : ReadsLink asked_head number bytes shut sent [] kept) → OfResponse (to_come kept.responses).marks
   shape kept keeps =
       let P : Reading → Type 0 = λ r. OfResponse r.marks in
       subst P (come (response asked_head) [] keeps.fed shut kept.responses keeps.reads) (of_response asked_head shut keeps.fed)
 
-  missing_is : (finish : Finish) (kept : KeptLink) (new : State) (got : FinalHead) → answer.Missing ≡ got → response_told [] finish ≡ missing → Keeps asked_head number bytes shut sent [] (record kept { responses = new }) →
+  missing_is : (finish : Finish) (kept : Link) (new : State) (got : FinalHead) → answer.Missing ≡ got → response_told [] finish ≡ missing → ReadsLink asked_head number bytes shut sent [] (record kept { responses = new }) →
       ((answer_list asked_head shut bytes).final ≡ response_told [] finish) × ((answer_list asked_head shut bytes).interim ≡ sent) →
       AnswerCome got asked_head number bytes shut sent (record kept { responses = new })
   missing_is finish kept new got same none keeps both =
       let P : FinalHead → Type 0 = λ a. AnswerCome a asked_head number bytes shut sent (record kept { responses = new }) in
       subst P same (keeps, both.0 ∙ none, both.1)
 
-  pub final_come : (got : Part) (kept : KeptLink) (new : State) (found : FinalHead) → Keeps asked_head number bytes shut sent [] kept → IsNext got (to_come kept.responses) →
+  pub final_come : (got : Part) (kept : Link) (new : State) (found : FinalHead) → ReadsLink asked_head number bytes shut sent [] kept → IsNext got (to_come kept.responses) →
       GaveOne got kept.responses new → came_of got ≡ came.Final found → AnswerCome found asked_head number bytes shut sent (record kept { responses = new })
   final_come (given.Response head) kept new found keeps next gives same = by_interim (is_interim head) head kept new found refl keeps next gives same
   final_come (given.Bad fault) kept new found keeps next gives same =
@@ -221,8 +239,8 @@ passes_on asked_head bytes fed rest sent head interim behind passes =
       final = λ closed more. passes.final closed more ∙ ap (λ (a : Answers). a.final) (list closed more);
     }
 
-module _ (asked_head : Bool) (number : ℕ) (bytes : List ℕ) (shut : Bool) (sent : List ResponseHead) (head : ResponseHead) (kept kept' : KeptLink) (new : State)
-    (keeps : Keeps asked_head number bytes shut sent [] kept) (next : IsNext (given.Response head) (to_come kept.responses)) (gives : GaveOne (given.Response head) kept.responses new)
+module _ (asked_head : Bool) (number : ℕ) (bytes : List ℕ) (shut : Bool) (sent : List ResponseHead) (head : ResponseHead) (kept kept' : Link) (new : State)
+    (keeps : ReadsLink asked_head number bytes shut sent [] kept) (next : IsNext (given.Response head) (to_come kept.responses)) (gives : GaveOne (given.Response head) kept.responses new)
     (interim : is_interim head ≡ true) (begins_next : NextBegun (record kept { responses = new }) kept') where
   told_head : (response_reading asked_head shut keeps.fed).marks ≡ answers head ∷ next.1.0
   told_head = ap (λ (r : Reading). r.marks) (come (response asked_head) [] keeps.fed shut kept.responses keeps.reads) ∙ next.1.1
@@ -253,13 +271,13 @@ module _ (asked_head : Bool) (number : ℕ) (bytes : List ℕ) (shut : Bool) (se
   behind_now = behind_by asked_head shut keeps.fed head stands_now begins_next.between end_now.0 interim reads_end end_now.1
 
   -- its state is that of a side on which one interim response more was sent on
-  pub next_keeps : Keeps asked_head number bytes shut (sent ++ head ∷ []) [] kept'
+  pub next_keeps : ReadsLink asked_head number bytes shut (sent ++ head ∷ []) [] kept'
   next_keeps =
       let rest : List ℕ = begins_next.between.rest in
       let P : Bool → Bool → Type 0 = λ a c. Reads (response asked_head) [] rest shut (fresh a rest c) in
       let Q : Bool → Type 0 = λ a. P a shut in
       let R : Bool → Type 0 = λ c. P kept.asked_head c in
-      let K : KeptLink → Type 0 = λ k. Keeps asked_head number bytes shut (sent ++ head ∷ []) [] k in
+      let K : Link → Type 0 = λ k. ReadsLink asked_head number bytes shut (sent ++ head ∷ []) [] k in
       subst K (sym begins_next.same) (record {
         server = keeps.server;
         is_asked = keeps.is_asked;
@@ -324,19 +342,19 @@ pub sends_append : (sends : Bool) (heads more : List ResponseHead) → sends_on 
 sends_append true heads more = map-append interim_command heads more
 sends_append false heads more = refl
 
-pub sent_nothing : (sends : Bool) (kept : KeptLink) (out : List Command) → SendsOn sends kept out kept out
+pub sent_nothing : (sends : Bool) (kept : Link) (out : List Command) → SendsOn sends kept out kept out
 sent_nothing sends kept out = λ asked_head number bytes shut sent keeps. record {
   more = [];
   grown = sym (ap (λ l. out ++ l) (sends_none sends) ∙ append-nil out);
-  keeps = let P : List ResponseHead → Type 0 = λ l. Keeps asked_head number bytes shut l [] kept in subst P (sym (append-nil sent)) keeps;
+  keeps = let P : List ResponseHead → Type 0 = λ l. ReadsLink asked_head number bytes shut l [] kept in subst P (sym (append-nil sent)) keeps;
 }
 
-pub sent_more : (sends : Bool) (old kept kept' : KeptLink) (out longer longest : List Command) (head : ResponseHead) (new : State) → SendsOn sends old out kept longer →
+pub sent_more : (sends : Bool) (old kept kept' : Link) (out longer longest : List Command) (head : ResponseHead) (new : State) → SendsOn sends old out kept longer →
     IsNext (given.Response head) (to_come kept.responses) → GaveOne (given.Response head) kept.responses new → is_interim head ≡ true → NextBegun (record kept { responses = new }) kept' →
     longest ≡ longer ++ sends_on sends (head ∷ []) → SendsOn sends old out kept' longest
 sent_more sends old kept kept' out longer longest head new so_far next gives interim begins_next grown = λ asked_head number bytes shut sent keeps.
     let so = so_far asked_head number bytes shut sent keeps in
-    let P : List ResponseHead → Type 0 = λ l. Keeps asked_head number bytes shut l [] kept' in
+    let P : List ResponseHead → Type 0 = λ l. ReadsLink asked_head number bytes shut l [] kept' in
     record {
       more = so.more ++ head ∷ [];
       grown = grown ∙ (ap (λ l. l ++ sends_on sends (head ∷ [])) so.grown
@@ -345,14 +363,14 @@ sent_more sends old kept kept' out longer longest head new so_far next gives int
           (next_keeps asked_head number bytes shut (sent ++ so.more) head kept kept' new so.keeps next gives interim begins_next);
     }
 
-pub less_left : (sends : Bool) (old kept kept' : KeptLink) (out longer : List Command) (head : ResponseHead) (new : State) → IsKept old → SendsOn sends old out kept longer →
+pub less_left : (sends : Bool) (old kept kept' : Link) (out longer : List Command) (head : ResponseHead) (new : State) → IsKept old → SendsOn sends old out kept longer →
     IsNext (given.Response head) (to_come kept.responses) → GaveOne (given.Response head) kept.responses new → is_interim head ≡ true → NextBegun (record kept { responses = new }) kept' →
     left_of kept' < left_of kept
 less_left sends old kept kept' out longer head new is so_far next gives interim begins_next =
     let so = so_far is.asked_head is.number is.bytes is.shut is.sent is.keeps in
     next_left is.asked_head is.number is.bytes is.shut (is.sent ++ so.more) head kept kept' new so.keeps next gives interim begins_next
 
-pub read_answer_come : (sends : Bool) (old kept : KeptLink) (out longer : List Command) (got : Part) (new : State) (found : FinalHead) → SendsOn sends old out kept longer →
+pub read_answer_come : (sends : Bool) (old kept : Link) (out longer : List Command) (got : Part) (new : State) (found : FinalHead) → SendsOn sends old out kept longer →
     IsNext got (to_come kept.responses) → GaveOne got kept.responses new → came_of got ≡ came.Final found → ReadsAnswer found sends old out (record kept { responses = new }) longer
 read_answer_come sends old kept out longer got new found so_far next gives same = λ asked_head number bytes shut sent keeps.
     let so = so_far asked_head number bytes shut sent keeps in

@@ -1,170 +1,208 @@
--- What a flow did not use of the bytes of its two sides, where it stands.
-use Rattle.std.proofs.Common.{◌≡◌, ◌+◌, List, [], drop, Option, Some, None, refl, ap, sym, ◌∙◌, subst}
+-- What a stream tells of itself is read off the place where it stands: what became of it, and what it did not use of the bytes of its two sides.
+use Rattle.std.proofs.Common.{◌≡◌, ℕ, Bool, true, false, List, [], ◌∷◌, Option, Some, None, Result, Ok, Err, refl, ap, sym, ◌∙◌, subst}
+use Rattle.std.specs.Prelude.{IfOk}
 use Rattle.px_event.specs.declared.command.Command.{Command}
-use Rattle.px_event.specs.Chain.{Look, NotYet, Asks, Ends}
+use Rattle.px_event.specs.declared.event.Event.{Event}
+use Rattle.px_event.specs.declared.event.Rests.{Rests}
+use Rattle.px_event.specs.Chain.{Timed, Look, NotYet, Asks, Ends}
 use Rattle.px_message.specs.declared.flow.Flow.{Flow}
 use Rattle.px_message.specs.declared.request.Request.{Request}
-use Rattle.px_read.specs.Marks.{Mark}
+use Rattle.px_read.specs.Marks.{Mark, asks, answers}
 use Rattle.px_read.specs.Reader.{State}
 use Rattle.px_read.specs.declared.head.ResponseHead.{ResponseHead as ReadResponse}
-use Rattle.px_stream.specs.declared.link.Link.{Link as KeptLink}
+use Rattle.px_exchange.specs.declared.outcome.Outcome.TheVariants as outcomes
+use Rattle.px_exchange.specs.declared.terms.Terms.{Terms}
+use Rattle.px_exchange.specs.Requests.{is_head}
+use Rattle.px_chain.specs.Chain.{Connect, connect_in, look}
+use Rattle.px_chain.specs.Sights.{Sight, Standing, request_in, server_left, sight_over}
+use Rattle.px_chain.specs.Stages.{At, Doing, Stage, busy, connection, given_body, given_head, idle, next, over, request_body, response_body, response_head, upgraded}
+use Rattle.px_stream.specs.declared.link.Link.{Link}
 use Rattle.px_stream.specs.declared.phase.Asked.{Asked}
+use Rattle.px_stream.specs.declared.phase.Asked.TheVariants as asked
 use Rattle.px_stream.specs.declared.phase.Phase.{Phase}
 use Rattle.px_stream.specs.declared.phase.Phase.TheVariants as phase
 use Rattle.px_stream.specs.declared.phase.Wanted.{Wanted}
-use Rattle.px_exchange.specs.declared.terms.Terms.{Terms}
-use Rattle.px_exchange.specs.declared.place.Place.{Place}
-use Rattle.px_chain.specs.Chain.{Connect, connect_in, look}
-use Rattle.px_chain.specs.Sights.{Sight, answers_in, request_in}
-use Rattle.px_chain.specs.Stages.{At, ServerSide, Stage, busy, connection, given_body, given_head, idle, next, over, request_body, response_body, response_head, upgraded}
-use Rattle.px_stream.specs.Rests.{ready_rest, asked_rest, phase_flow, phase_rest, IsLinkUnread, side_bytes, ClientBehind, ClientWaiting, ClientAsked, ClientLast, ServerLast, ServerWaiting, ServerAsked, size_in, flow_last, LeavesRests}
-use Rattle.px_stream.specs.Stands.{IsLast, IsLastAt, IsLink, IsReady, IsAsked, PhaseAt}
+use Rattle.px_stream.specs.declared.phase.Wanted.TheVariants as ready
+use Rattle.px_stream.specs.declared.stream.Stream.{Stream}
+use Rattle.px_stream.specs.Anywhere.{IsInSequence}
+use Rattle.px_stream.specs.Rests.{ClientAsked, ClientBehind, ClientLast, ClientWaiting, IsUnreadAnswer, LeavesRests, ServerAsked, ServerLast, ServerWaiting, flow_last}
+use Rattle.px_stream.specs.Stands.{AskedRequest, AskedSide, HasRequest, HasSide, IsAsked, IsLast, IsLastAt, IsLastFor, IsLink, IsOpen, IsReady, LinkKeeps, PhaseAt, ReadsFinal, ReadsReturn, asked_in, content_in, is_last, stage_of}
+use Rattle.px_stream.specs.Tells.{connected_by, ended_at, outcome_at, outcome_in, phase_flow, side_rest, uses_side}
+use Rattle.px_stream.proofs.AskLemmas.{uses_asked, uses_of}
 
-link_unread : (message : Request) (side : ServerSide) (seen : Sight) (sent : List ReadResponse) (told : List Mark) (kept : KeptLink) → IsLink message side seen sent told kept →
-    IsLinkUnread message side seen kept.responses.rest
-link_unread message side seen sent told kept is = record {
-  sent = sent;
-  fed = is.keeps.fed;
-  passes = is.keeps.passes;
-  unread = record { told = told; state = kept.responses; reads = is.keeps.reads; keeps = refl };
-}
+link_unread : (message : Request) (server : ℕ) (seen : Sight) (sent : List ReadResponse) (told : List Mark) (link : Link) → IsLink message server seen sent told link →
+    IsUnreadAnswer (is_head message.method) seen.server seen.shut link.responses.rest
+link_unread message server seen sent told link is =
+    record { sent = sent; fed = is.fed; passes = is.passes; unread = record { told = told; state = link.responses; reads = is.reads; keeps = refl } }
 
 -- ---- while no answer is awaited
 
-module _ (terms : Terms) (requests : State) (looked : Wanted) (seen : Sight) (sent : List ReadResponse) where
-  -- behind a response of code 101 nothing waits
-  no_upgrade : (at : At) (flow : Flow) (side : ServerSide) → look terms (busy at flow (upgraded side)) seen ≡ NotYet → ⊥
-  no_upgrade at flow side waits = let no : Ends [] ≡ NotYet = waits in cc
+module _ (terms : Terms) (at : At) (requests : State) (side : Option Link) (seen : Sight) (sent : List ReadResponse) where
+  head_waits : (message : Request) (server : ℕ) (s : Option Link) → IsOpen (IsLink message server seen sent []) s → IsUnreadAnswer (is_head message.method) seen.server seen.shut (side_rest true s)
+  head_waits message server None is = absurd is
+  head_waits message server (Some link) is = link_unread message server seen sent [] link is
 
-  client_waiting : (stage : Stage) → look terms stage seen ≡ NotYet → IsReady requests looked stage seen sent → ClientWaiting stage seen requests.rest
-  client_waiting (idle at) waits is = record { told = _; state = requests; reads = is.reads; keeps = refl }
-  client_waiting (busy at flow (request_body given)) waits is = record { told = _; state = requests; reads = is.reads; keeps = refl }
-  client_waiting (busy at flow connection) waits is = is.keeps.rest
-  client_waiting (busy at flow (response_head side how)) waits is = is.keeps.rest
-  client_waiting (busy at flow (response_body side how)) waits is = is.keeps.rest
-  client_waiting (busy at flow (upgraded side)) waits is = absurd (no_upgrade at flow side waits)
-  client_waiting (busy at flow given_head) waits is = is.keeps.rest
-  client_waiting (busy at flow given_body) waits is = is.keeps.rest
-  client_waiting (next at) waits is = is.keeps.rest
-  client_waiting over waits is = tt
+  body_waits : (message : Request) (server : ℕ) (content : List ℕ) (s : Option Link) → IsOpen (ReadsReturn message server seen content) s → IsUnreadAnswer (is_head message.method) seen.server seen.shut (side_rest true s)
+  body_waits message server content None is = absurd is
+  body_waits message server content (Some link) is = link_unread message server seen is.sent _ link is.is_link
 
-  server_waiting : (stage : Stage) → look terms stage seen ≡ NotYet → IsReady requests looked stage seen sent → ServerWaiting stage seen (ready_rest looked)
-  server_waiting (idle at) waits is = ap ready_rest is.phase
-  server_waiting (busy at flow (request_body given)) waits is = ap ready_rest is.phase
-  server_waiting (busy at flow connection) waits is = ap ready_rest is.phase
-  server_waiting (busy at flow (response_head side how)) waits is =
-      let P : Wanted → Type 0 = λ r. IsLinkUnread flow.request side seen (ready_rest r) in
-      subst P (sym is.phase) (link_unread flow.request side seen _ _ is.kept is.is_link)
-  server_waiting (busy at flow (response_body side how)) waits is =
-      let P : Wanted → Type 0 = λ r. IsLinkUnread flow.request side seen (ready_rest r) in
-      subst P (sym is.phase) (link_unread flow.request side seen _ _ is.kept is.is_link)
-  server_waiting (busy at flow (upgraded side)) waits is = absurd (no_upgrade at flow side waits)
-  server_waiting (busy at flow given_head) waits is = ap ready_rest is.phase
-  server_waiting (busy at flow given_body) waits is = ap ready_rest is.phase
-  server_waiting (next at) waits is = ap ready_rest is.phase
-  server_waiting over waits is = ap ready_rest is
+  record Waits (looked : Wanted) : Type 0 where
+    client : ClientWaiting (stage_of at looked) seen requests.rest
+    server : ServerWaiting (stage_of at looked) seen (side_rest (uses_side (phase.Ready looked)) side)
+    flow : phase_flow (phase.Ready looked) ≡ None
+    going : outcome_in (phase.Ready looked) ≡ outcomes.Going
+
+  waits_by : (looked : Wanted) → is_last (phase.Ready looked) ≡ false → HasRequest (stage_of at looked) seen (content_in looked) requests → HasSide (stage_of at looked) seen sent (content_in looked) side → Waits looked
+  waits_by ready.Idle goes reads has = record { client = record { told = []; state = requests; reads = reads; keeps = refl }; server = refl; flow = refl; going = refl }
+  waits_by (ready.RequestBody flow given body) goes reads has =
+      record { client = record { told = asks reads.head ∷ reads.marks; state = requests; reads = reads.reads; keeps = refl }; server = refl; flow = refl; going = refl }
+  waits_by (ready.Connection flow) goes reads has = record { client = reads.rest; server = refl; flow = refl; going = refl }
+  waits_by (ready.ResponseHead flow server) goes reads has = record { client = reads.rest; server = head_waits flow.request server side has; flow = refl; going = refl }
+  waits_by (ready.ResponseBody flow server body) goes reads has = record { client = reads.rest; server = body_waits flow.request server body side has; flow = refl; going = refl }
+  waits_by (ready.Upgraded flow server) goes reads has = absurd (let no : true ≡ false = goes in cc)
+  waits_by (ready.GivenHead flow) goes reads has = record { client = reads.rest; server = refl; flow = refl; going = refl }
+  waits_by (ready.GivenBody flow) goes reads has = record { client = reads.rest; server = refl; flow = refl; going = refl }
+  waits_by (ready.Connects address) goes reads has = absurd reads
+  waits_by ready.Over goes reads has = absurd (let no : true ≡ false = goes in cc)
 
 -- ---- while one is
 
-module _ (terms : Terms) (requests : State) (found : Asked) (seen : Sight) where
-  client_asked : (stage : Stage) → IsAsked terms requests found stage seen → ClientAsked stage seen requests.rest
-  client_asked (idle at) is = record { told = _; state = requests; reads = is.reads; keeps = refl }
-  client_asked (busy at flow (request_body None)) is = is.keeps.rest ∙ ap (λ i. drop (at.used + size_in i) seen.client) (sym is.stands)
-  client_asked (busy at flow (request_body (Some given))) is = absurd is
-  client_asked (busy at flow connection) is = is.keeps.rest
-  client_asked (busy at flow (response_head side how)) (sent, is) = is.keeps.rest
-  client_asked (busy at flow (response_body side how)) is = is.keeps.rest
-  client_asked (busy at flow (upgraded side)) is = absurd is
-  client_asked (busy at flow given_head) is = is.keeps.rest
-  client_asked (busy at flow given_body) is = is.keeps.rest
-  client_asked (next at) is = absurd is
-  client_asked over is = absurd is
+final_waits : (message : Request) (server : ℕ) (seen : Sight) (s : Option Link) → IsOpen (ReadsFinal message server seen) s → IsUnreadAnswer (is_head message.method) seen.server seen.shut (side_rest true s)
+final_waits message server seen None is = absurd is
+final_waits message server seen (Some link) is = link_unread message server seen is.sent _ link is.is_link
 
-  server_asked : (stage : Stage) → IsAsked terms requests found stage seen → ServerAsked stage seen (asked_rest found)
-  server_asked (idle at) is = ap asked_rest is.phase
-  server_asked (busy at flow (request_body None)) is = ap asked_rest is.phase
-  server_asked (busy at flow (request_body (Some given))) is = absurd is
-  server_asked (busy at flow connection) is = ap asked_rest is.phase
-  server_asked (busy at flow (response_head side how)) (sent, is) =
-      let P : Asked → Type 0 = λ a. IsLinkUnread flow.request side seen (asked_rest a) in
-      subst P (sym is.phase) (link_unread flow.request side seen _ _ is.kept is.is_link)
-  server_asked (busy at flow (response_body side how)) is =
-      ap asked_rest is.phase
-      ∙ (is.rest ∙ ap (λ i. drop ((answers_in flow.request side seen).used + size_in i) (side_bytes side seen)) (sym is.stands))
-  server_asked (busy at flow (upgraded side)) is = absurd is
-  server_asked (busy at flow given_head) is = ap asked_rest is.phase
-  server_asked (busy at flow given_body) is = ap asked_rest is.phase
-  server_asked (next at) is = absurd is
-  server_asked over is = absurd is
+kept_waits : (server : ℕ) (bytes : List ℕ) (shut : Bool) (s : Option Link) → IsOpen (LinkKeeps server bytes shut) s → side_rest true s ≡ bytes
+kept_waits server bytes shut None is = absurd is
+kept_waits server bytes shut (Some link) is = is.rest
+
+module _ (terms : Terms) (requests : State) (side : Option Link) (found : Asked) (seen : Sight) where
+  client_asked : (stage : Stage) → AskedRequest stage seen requests → ClientAsked stage seen requests.rest
+  client_asked (idle at) is = record { told = _; state = requests; reads = is; keeps = refl }
+  client_asked (busy at flow doing) is = is.rest
+  client_asked (next at) is = is.rest
+  client_asked over is = is.rest
+
+  server_asked : (stage : Stage) → AskedSide stage seen side → ServerAsked stage seen (side_rest (uses_of stage) side)
+  server_asked (idle at) is = refl
+  server_asked (busy at flow (request_body given)) is = refl
+  server_asked (busy at flow connection) is = refl
+  server_asked (busy at flow (response_head server how)) is = final_waits flow.request server seen side is
+  server_asked (busy at flow (response_body server how)) is = kept_waits server _ seen.shut side is
+  server_asked (busy at flow (upgraded server)) is = refl
+  server_asked (busy at flow given_head) is = refl
+  server_asked (busy at flow given_body) is = refl
+  server_asked (next at) is = refl
+  server_asked over is = refl
 
 -- ---- at the end
 
-abbrev flow_in : Wanted → Option Flow
-flow_in looked = phase_flow (phase.Ready looked)
+record Leaves (terms : Terms) (stage : Stage) (seen : Sight) (requests : State) (side : Option Link) (last : Wanted) : Type 0 where
+  client : ClientLast terms.place stage seen requests.rest
+  server : ServerLast stage seen (side_rest (uses_side (phase.Ready last)) side)
+  flow : phase_flow (phase.Ready last) ≡ flow_last stage
+  ended : outcome_in (phase.Ready last) ≡ ended_at terms.place stage seen
 
--- what is kept of both sides, and the flow
-record Leaves (place : Place) (stage : Stage) (seen : Sight) (requests : State) (last : Wanted) : Type 0 where
-  client : ClientLast place stage seen requests.rest
-  server : ServerLast stage seen (ready_rest last)
-  flow : flow_in last ≡ flow_last stage
+module _ (terms : Terms) (seen : Sight) (requests : State) (side : Option Link) (last : Wanted) where
+  abbrev rest_in : Wanted → List ℕ
+  rest_in looked = side_rest (uses_side (phase.Ready looked)) side
 
-leaves_idle : (place : Place) (at : At) (seen : Sight) (requests : State) (last : Wanted) (connects : Option Connect) → connect_in place (request_in at seen) ≡ connects →
-    IsLastAt connects at seen requests last → Leaves place (idle at) seen requests last
-leaves_idle place at seen requests last None is there =
-    let P : Option Connect → Type 0 = λ c. ClientBehind c at seen requests.rest in
-    record { client = subst P (sym is) tt; server = ap ready_rest there; flow = ap flow_in there }
-leaves_idle place at seen requests last (Some connects) is there =
-    let P : Option Connect → Type 0 = λ c. ClientBehind c at seen requests.rest in
-    record { client = subst P (sym is) there.keeps.rest; server = ap ready_rest there.phase; flow = ap flow_in there.phase }
+  leaves_idle : (at : At) (connects : Option Connect) → connect_in terms.place (request_in seen) ≡ connects → IsLastAt connects seen requests last → Leaves terms (idle at) seen requests side last
+  leaves_idle at None is there = record {
+    client = subst (λ c. ClientBehind c seen requests.rest) (sym is) tt;
+    server = ap rest_in there;
+    flow = ap (λ l. phase_flow (phase.Ready l)) there;
+    ended = ap (λ l. outcome_in (phase.Ready l)) there ∙ ap connected_by (sym is);
+  }
+  leaves_idle at (Some connects) is there = record {
+    client = subst (λ c. ClientBehind c seen requests.rest) (sym is) there.keeps.rest;
+    server = ap rest_in there.phase;
+    flow = ap (λ l. phase_flow (phase.Ready l)) there.phase;
+    ended = ap (λ l. outcome_in (phase.Ready l)) there.phase ∙ ap connected_by (sym is);
+  }
 
-leaves_last : (terms : Terms) (stage : Stage) (seen : Sight) (requests : State) (last : Wanted) → IsLast terms stage seen requests last → Leaves terms.place stage seen requests last
-leaves_last terms (idle at) seen requests last is = leaves_idle terms.place at seen requests last (connect_in terms.place (request_in at seen)) refl is
-leaves_last terms (busy at flow (request_body given)) seen requests last is = record { client = tt; server = ap ready_rest is; flow = ap flow_in is }
-leaves_last terms (busy at flow connection) seen requests last is = record { client = tt; server = ap ready_rest is; flow = ap flow_in is }
-leaves_last terms (busy at flow (response_head side how)) seen requests last is = record { client = tt; server = ap ready_rest is; flow = ap flow_in is }
-leaves_last terms (busy at flow (response_body side how)) seen requests last is = record { client = tt; server = ap ready_rest is; flow = ap flow_in is }
-leaves_last terms (busy at flow (upgraded side)) seen requests last is =
-    record { client = is.keeps.rest; server = ap ready_rest is.phase ∙ is.rest; flow = ap flow_in is.phase }
-leaves_last terms (busy at flow given_head) seen requests last is = record { client = tt; server = ap ready_rest is; flow = ap flow_in is }
-leaves_last terms (busy at flow given_body) seen requests last is = record { client = tt; server = ap ready_rest is; flow = ap flow_in is }
-leaves_last terms (next at) seen requests last is = record { client = is.keeps.rest; server = ap ready_rest is.phase; flow = ap flow_in is.phase }
-leaves_last terms over seen requests last is = record { client = tt; server = ap ready_rest is; flow = ap flow_in is }
+  leaves_for : (at : At) (flow : Flow) (doing : Doing) → IsLastFor flow doing seen requests side last → Leaves terms (busy at flow doing) seen requests side last
+  leaves_for at flow (request_body given) is = record { client = tt; server = ap rest_in is; flow = ap (λ l. phase_flow (phase.Ready l)) is; ended = ap (λ l. outcome_in (phase.Ready l)) is }
+  leaves_for at flow connection is = record { client = tt; server = ap rest_in is; flow = ap (λ l. phase_flow (phase.Ready l)) is; ended = ap (λ l. outcome_in (phase.Ready l)) is }
+  leaves_for at flow (response_head server how) is = record { client = tt; server = ap rest_in is; flow = ap (λ l. phase_flow (phase.Ready l)) is; ended = ap (λ l. outcome_in (phase.Ready l)) is }
+  leaves_for at flow (response_body server how) is = record { client = tt; server = ap rest_in is; flow = ap (λ l. phase_flow (phase.Ready l)) is; ended = ap (λ l. outcome_in (phase.Ready l)) is }
+  leaves_for at flow (upgraded server) is = record {
+    client = is.keeps.rest;
+    server = ap rest_in is.phase ∙ kept_waits server seen.server seen.shut side is.is_open;
+    flow = ap (λ l. phase_flow (phase.Ready l)) is.phase;
+    ended = ap (λ l. outcome_in (phase.Ready l)) is.phase;
+  }
+  leaves_for at flow given_head is = record { client = tt; server = ap rest_in is; flow = ap (λ l. phase_flow (phase.Ready l)) is; ended = ap (λ l. outcome_in (phase.Ready l)) is }
+  leaves_for at flow given_body is = record { client = tt; server = ap rest_in is; flow = ap (λ l. phase_flow (phase.Ready l)) is; ended = ap (λ l. outcome_in (phase.Ready l)) is }
 
--- where something is looked for, no flow is left to another protocol
-waits_for : (terms : Terms) (requests : State) (looked : Wanted) (seen : Sight) (sent : List ReadResponse) (stage : Stage) → look terms stage seen ≡ NotYet →
-    IsReady requests looked stage seen sent → flow_in looked ≡ None
-waits_for terms requests looked seen sent (idle at) waits is = ap flow_in is.phase
-waits_for terms requests looked seen sent (busy at flow (request_body given)) waits is = ap flow_in is.phase
-waits_for terms requests looked seen sent (busy at flow connection) waits is = ap flow_in is.phase
-waits_for terms requests looked seen sent (busy at flow (response_head side how)) waits is = ap flow_in is.phase
-waits_for terms requests looked seen sent (busy at flow (response_body side how)) waits is = ap flow_in is.phase
-waits_for terms requests looked seen sent (busy at flow (upgraded side)) waits is = absurd (no_upgrade terms requests looked seen sent at flow side waits)
-waits_for terms requests looked seen sent (busy at flow given_head) waits is = ap flow_in is.phase
-waits_for terms requests looked seen sent (busy at flow given_body) waits is = ap flow_in is.phase
-waits_for terms requests looked seen sent (next at) waits is = ap flow_in is.phase
-waits_for terms requests looked seen sent over waits is = ap flow_in is
+  leaves_last : (stage : Stage) → IsLast terms stage seen requests side last → Leaves terms stage seen requests side last
+  leaves_last (idle at) is = leaves_idle at (connect_in terms.place (request_in seen)) refl is
+  leaves_last (busy at flow doing) is = leaves_for at flow doing is
+  leaves_last (next at) is = record { client = tt; server = ap rest_in is; flow = ap (λ l. phase_flow (phase.Ready l)) is; ended = ap (λ l. outcome_in (phase.Ready l)) is }
+  leaves_last over is = record { client = tt; server = ap rest_in is; flow = ap (λ l. phase_flow (phase.Ready l)) is; ended = ap (λ l. outcome_in (phase.Ready l)) is }
 
--- what a state keeps of both sides, where the walk stopped
-leaves_by : (l : Look Command) (terms : Terms) (requests : State) (found : Phase) (stage : Stage) (seen : Sight) → look terms stage seen ≡ l →
-    PhaseAt l terms requests found stage seen → LeavesRests terms.place l stage seen requests.rest (phase_rest found) (phase_flow found)
-leaves_by NotYet terms requests found stage seen waits (looked, sent, same, at, gave) = (
-  client_waiting terms requests looked seen sent stage waits at,
-  (let P : Phase → Type 0 = λ p. ServerWaiting stage seen (phase_rest p) in
-      subst P (sym same) (server_waiting terms requests looked seen sent stage waits at)),
-  ap phase_flow same ∙ waits_for terms requests looked seen sent stage waits at,
-)
-leaves_by (Asks ask) terms requests found stage seen is (awaits, same, at) = (
-  client_asked terms requests awaits seen stage at,
-  (let P : Phase → Type 0 = λ p. ServerAsked stage seen (phase_rest p) in subst P (sym same) (server_asked terms requests awaits seen stage at)),
-  ap phase_flow same,
-)
-leaves_by (Ends owed) terms requests found stage seen is (last, same, at) =
-    let there = leaves_last terms stage seen requests last at in (
-      there.client,
-      (let P : Phase → Type 0 = λ p. ServerLast stage seen (phase_rest p) in subst P (sym same) there.server),
-      ap phase_flow same ∙ there.flow,
-    )
+-- ---- wherever it stands
 
-pub leaves_rests : (terms : Terms) (requests : State) (found : Phase) (stage : Stage) (seen : Sight) → PhaseAt (look terms stage seen) terms requests found stage seen →
-    LeavesRests terms.place (look terms stage seen) stage seen requests.rest (phase_rest found) (phase_flow found)
-leaves_rests terms requests found stage seen at = leaves_by (look terms stage seen) terms requests found stage seen refl at
+-- what is looked for while the stage waits is not an end
+goes_on : (terms : Terms) (at : At) (looked : Wanted) (seen : Sight) → look terms (stage_of at looked) seen ≡ NotYet → is_last (phase.Ready looked) ≡ false
+goes_on terms at ready.Idle seen waits = refl
+goes_on terms at (ready.RequestBody flow given body) seen waits = refl
+goes_on terms at (ready.Connection flow) seen waits = refl
+goes_on terms at (ready.ResponseHead flow server) seen waits = refl
+goes_on terms at (ready.ResponseBody flow server body) seen waits = refl
+goes_on terms at (ready.Upgraded flow server) seen waits = absurd (let no : Ends [] ≡ NotYet = waits in cc)
+goes_on terms at (ready.GivenHead flow) seen waits = refl
+goes_on terms at (ready.GivenBody flow) seen waits = refl
+goes_on terms at (ready.Connects address) seen waits = absurd (let no : Ends [] ≡ NotYet = waits in cc)
+goes_on terms at ready.Over seen waits = absurd (let no : Ends [] ≡ NotYet = waits in cc)
+
+module _ (terms : Terms) (at : At) (requests : State) (side : Option Link) (found : Phase) (stage : Stage) (seen : Sight) where
+  -- what it tells there
+  record Tells (l : Look Command) : Type 0 where
+    rests : LeavesRests terms.place l stage seen requests.rest (side_rest (uses_side found) side) (phase_flow found)
+    outcome : outcome_in found ≡ outcome_at terms.place l stage seen
+
+  abbrev LeavesIn : Look Command → Phase → Type 0
+  LeavesIn l p = LeavesRests terms.place l stage seen requests.rest (side_rest (uses_side p) side) (phase_flow p)
+
+  tells_by : (l : Look Command) → look terms stage seen ≡ l → PhaseAt l terms at requests side found stage seen → Tells l
+  tells_by NotYet waits (looked, sent, same, is, gave) =
+      let goes = goes_on terms at looked seen (ap (λ s. look terms s seen) is.is_stage ∙ waits) in
+      let there = waits_by terms at requests side seen sent looked goes (subst (λ s. HasRequest s seen (content_in looked) requests) (sym is.is_stage) is.request)
+      (subst (λ s. HasSide s seen sent (content_in looked) side) (sym is.is_stage) is.has_side) in
+      record {
+        rests = subst (LeavesIn NotYet) (sym same) (
+          subst (λ s. ClientWaiting s seen requests.rest) is.is_stage there.client,
+          subst (λ s. ServerWaiting s seen (side_rest (uses_side (phase.Ready looked)) side)) is.is_stage there.server,
+          there.flow,
+        );
+        outcome = ap outcome_in same ∙ there.going;
+      }
+  tells_by (Asks ask) is_found (here, same, is) = record {
+    rests = subst (LeavesIn (Asks ask)) (sym same) (
+      client_asked terms requests side here seen stage is.request,
+      subst (λ b. ServerAsked stage seen (side_rest b side)) (sym (uses_asked terms stage seen here is.asks)) (server_asked terms requests side here seen stage is.has_side),
+      refl,
+    );
+    outcome = ap outcome_in same;
+  }
+  tells_by (Ends owed) ends (last, same, is) =
+      let there = leaves_last terms seen requests side last stage is in
+      record { rests = subst (LeavesIn (Ends owed)) (sym same) (there.client, there.server, there.flow); outcome = ap outcome_in same ∙ there.ended }
+
+pub rests_there : (made : Terms) (ahead : ℕ) (state : Stream) (place : Standing) (prefix : List (Timed Event)) → IsInSequence made ahead state place prefix →
+    LeavesRests made.place (look made place.stage (sight_over place prefix)) place.stage (sight_over place prefix) state.requests.rest (side_rest (uses_side state.phase) state.side) (phase_flow state.phase)
+rests_there made ahead state place prefix stands =
+    (tells_by made state.at state.requests state.side state.phase place.stage (sight_over place prefix) (look made place.stage (sight_over place prefix)) refl stands.is_at.is_in.phase).rests
+
+pub outcome_there : (made : Terms) (ahead : ℕ) (state : Stream) (place : Standing) (prefix : List (Timed Event)) → IsInSequence made ahead state place prefix →
+    outcome_in state.phase ≡ outcome_at made.place (look made place.stage (sight_over place prefix)) place.stage (sight_over place prefix)
+outcome_there made ahead state place prefix stands =
+    (tells_by made state.at state.requests state.side state.phase place.stage (sight_over place prefix) (look made place.stage (sight_over place prefix)) refl stands.is_at.is_in.phase).outcome
+
+-- what is said of three parts is said of those that are equal
+pub rests_as : {E : Type 0} (result : Result (Rests × Option Flow) E) (client server : List ℕ) (flow : Option Flow) (P : List ℕ → List ℕ → Option Flow → Type 0) →
+    IfOk result (λ left. left.0.client ≡ client) → IfOk result (λ left. left.0.server ≡ server) → IfOk result (λ left. left.1 ≡ flow) → P client server flow →
+    IfOk result (λ left. P left.0.client left.0.server left.1)
+rests_as (Ok left) client server flow P one two three is =
+    subst (λ f. P left.0.client left.0.server f) (sym three) (subst (λ l. P left.0.client l flow) (sym two) (subst (λ l. P l server flow) (sym one) is))
+rests_as (Err e) client server flow P one two three is = tt

@@ -1,90 +1,124 @@
--- Events that are heard while the dial of a server is awaited.
-use Rattle.std.proofs.Common.{◌≡◌, ◌≤◌, ℕ, Bool, true, false, List, [], ◌∷◌, ◌++◌, length, drop, Option, Some, None, Result, Ok, Err, refl, ap, sym, ◌∙◌, subst}
-use Rattle.std.specs.Prelude.{◌||◌, if◌then◌else◌, OnOk}
-use Rattle.std.proofs.lemmas.List.{drop-append-le}
+-- A stream whose server is dialled: it hears what comes meanwhile, and is connected by others.
+use Rattle.std.proofs.Common.{◌≡◌, ℕ, ◌+◌, ◌<◌, ◌≤◌, Bool, true, false, List, [], ◌∷◌, ◌++◌, length, drop, Option, Some, None, refl, ap, sym, ◌∙◌, subst, arith, append_assoc, option_to_list}
+use Rattle.std.specs.Prelude.{◌||◌, if◌then◌else◌}
+use Rattle.std.specs.List.{flat_map}
+use Rattle.std.proofs.lemmas.List.{append-nil, drop-append-le}
 use Rattle.px_message.specs.declared.flow.Flow.{Flow}
+use Rattle.px_event.specs.declared.command.Command.{Command}
 use Rattle.px_event.specs.declared.event.Event.{Event}
+use Rattle.px_event.specs.declared.reply.Reply.{Reply}
 use Rattle.px_event.specs.declared.reply.Reply.TheVariants as reply
 use Rattle.px_event.specs.declared.side.Side.{Side}
 use Rattle.px_event.specs.declared.side.Side.TheVariants.{Client, Server}
-use Rattle.px_event.specs.Chain.{Timed}
-use Rattle.px_read.specs.Reader.{State}
-use Rattle.px_exchange.specs.declared.place.Place.{Place}
-use Rattle.px_exchange.specs.declared.terms.Terms.{Terms}
-use Rattle.px_chain.specs.Chain.{look}
-use Rattle.px_chain.specs.Sights.{Sight, Standing, bytes_over, shut_over, sight_of, sight_over, sight_with}
-use Rattle.px_chain.specs.Stages.{At, Parked, ServerSide, Stage, busy, connection, given_body, given_head, idle, next, over, request_body, response_body, response_head, side_of, side_parked, upgraded}
+use Rattle.px_event.specs.Chain.{Timed, Turn, found_with}
+use Rattle.px_event.specs.Laws.{owed_over}
+use Rattle.px_event.specs.Layer.{AsksOnly, asks_in}
 use Rattle.px_event.specs.Sides.{closes, piece_of}
+use Rattle.px_event.specs.View.{questions, seen_of}
+use Rattle.px_event.proofs.Seen.{seen_append}
+use Rattle.px_read.specs.Reader.{State}
+use Rattle.px_exchange.specs.declared.terms.Terms.{Terms}
+use Rattle.px_exchange.specs.Dials.{connected_owes}
+use Rattle.px_exchange.specs.Requests.{is_head}
+use Rattle.px_chain.specs.Chain.{behind, http_chain, look, pass, reached, sequence, sight_past, so_far, turn}
+use Rattle.px_chain.specs.Left.{behind_left, stages_left}
+use Rattle.px_chain.specs.Sights.{IsWithin, Sight, Standing, UsedBytes, bytes_over, dials_at, shut_over, sight_of, sight_over, sight_with}
+use Rattle.px_chain.specs.Stages.{At, Doing, Parked, Stage, all_sent, busy, connection, given_body, given_head, idle, next, over, request_body, response_body, response_head, side_of, side_parked, upgraded}
 use Rattle.px_chain.specs.Streams.{Since, bytes_of, client_closed, is_closed}
 use Rattle.px_chain.proofs.FrontLaws.{now_more}
 use Rattle.px_chain.proofs.SightLaws.{sight_more, within_more}
-use Rattle.px_stream.specs.declared.link.Link.{Link as KeptLink}
-use Rattle.px_stream.specs.declared.numbers.Numbers.{Numbers}
+use Rattle.px_stream.specs.declared.link.Link.{Link}
 use Rattle.px_stream.specs.declared.phase.Asked.{Asked}
 use Rattle.px_stream.specs.declared.phase.Asked.TheVariants as asked
 use Rattle.px_stream.specs.declared.phase.Phase.{Phase}
 use Rattle.px_stream.specs.declared.phase.Phase.TheVariants as phase
+use Rattle.px_stream.specs.declared.phase.Wanted.{Wanted}
 use Rattle.px_stream.specs.declared.stream.Stream.{Stream}
-use Rattle.px_stream.specs.Anywhere.{HearsWaiting, OpensInTime, Somewhere}
-use Rattle.px_stream.specs.Calls.{IsSome}
-use Rattle.px_stream.specs.Heard.{ParkedAgrees, closes_client, requests_take, parked_takes}
-use Rattle.px_stream.specs.Sequence.{IsInSequence}
-use Rattle.px_stream.specs.Stands.{IsAsked, IsIn, IsPlaced, IsParked, KeepsBehind, awaited_in}
-use Rattle.px_stream.specs.Through.{IsDialling}
-use Rattle.px_stream.proofs.CallLemmas.{IsLive, asked_by, parked_agrees}
-use Rattle.px_stream.proofs.HearLemmas.{keeps_on, parked_took, place_on}
+use Rattle.px_stream.specs.Anywhere.{HearsWaiting, IsFew, IsInSequence, MayReach, OpensInTime, Reaches, ReachesThere, Somewhere}
+use Rattle.px_stream.specs.Heard.{IsUnshut, SideAgrees, closes_client, feeds, requests_take, side_takes, side_with}
+use Rattle.px_stream.specs.Looks.{MayLook}
+use Rattle.px_stream.specs.Stands.{HasPlace, HasRequest, IsAsked, IsIn, IsLink, IsOpen, IsPlaced, IsReady, IsSome, Keeps, ReadsLink, asked_in, awaited_in, awaits, content_in, parked_link, stage_of, unread_link}
+use Rattle.px_stream.specs.Tells.{IsDialling, sequence_left}
+use Rattle.px_stream.specs.Turns.{Hears, LooksOnce, Turned, TurnsTo, is_dial, opened_side, side_behind}
+use Rattle.px_stream.proofs.AnywhereLemmas.{looked_asks}
+use Rattle.px_stream.proofs.AskLemmas.{dial_asked}
+use Rattle.px_stream.proofs.CallLemmas.{LookedIn, asked_at, at_walked, gives_walked, looked_in, may_look, same_tail, turns_in}
+use Rattle.px_stream.proofs.HearLemmas.{keeps_took, parked_took, placed_on}
+use Rattle.px_stream.proofs.MoveLemmas.{at_most, left_asks}
+use Rattle.px_stream.proofs.TurnLemmas.{none_sent, unread_reads}
 
 -- ---- where a dial is awaited
 
--- the flow's connection is awaited there, of this server
-pub record IsAtDial (requests : State) (here : Asked) (stage : Stage) (seen : Sight) : Type 0 where
-  pub at : At
-  pub flow : Flow
-  pub stage_is : stage ≡ busy at flow connection
-  pub dials : here ≡ asked.Dial flow at.dials
-  pub keeps : KeepsBehind at.used seen requests
-
-abbrev IsDial : Asked → Type 0
-IsDial here = IsDialling (phase.Asked here)
-
-dial_at : (made : Terms) (requests : State) (here : Asked) (seen : Sight) → IsDial here → (stage : Stage) → IsAsked made requests here stage seen → IsAtDial requests here stage seen
-dial_at made requests here seen dials (idle at) is = absurd (subst IsDial is.phase dials)
-dial_at made requests here seen dials (busy at flow (request_body None)) is = absurd (subst IsDial is.phase dials)
-dial_at made requests here seen dials (busy at flow (request_body (Some given))) is = absurd is
-dial_at made requests here seen dials (busy at flow connection) is = record { at = at; flow = flow; stage_is = refl; dials = is.phase; keeps = is.keeps }
-dial_at made requests here seen dials (busy at flow (response_head side how)) (sent, is) = absurd (subst IsDial is.phase dials)
-dial_at made requests here seen dials (busy at flow (response_body side how)) is = absurd (subst IsDial is.phase dials)
-dial_at made requests here seen dials (busy at flow (upgraded side)) is = absurd is
-dial_at made requests here seen dials (busy at flow given_head) is = absurd (subst IsDial is.phase dials)
-dial_at made requests here seen dials (busy at flow given_body) is = absurd (subst IsDial is.phase dials)
-dial_at made requests here seen dials (next at) is = absurd is
-dial_at made requests here seen dials over is = absurd is
-
--- what is asked there
-pub asked_at : (found : Phase) → IsDialling found → (here : Asked) × (found ≡ phase.Asked here)
-asked_at (phase.Asked here) dials = (here, refl)
-asked_at (phase.Ready looked) dials = absurd dials
+pub dial_in : (found : Phase) → IsDialling found → (here : Asked) × (found ≡ phase.Asked here)
+dial_in (phase.Asked here) dials = (here, refl)
+dial_in (phase.Ready looked) dials = absurd dials
 
 pub dial_awaited : (found : Phase) → IsDialling found → IsSome (awaited_in found)
 dial_awaited (phase.Asked here) dials = tt
 dial_awaited (phase.Ready looked) dials = absurd dials
 
-pub is_at_dial : (made : Terms) (state : Stream) (here : Asked) (stage : Stage) (seen : Sight) → IsDialling state.phase → state.phase ≡ phase.Asked here → IsIn made state stage seen →
-    IsAtDial state.requests here stage seen
-is_at_dial made state here stage seen dials live is =
-    dial_at made state.requests here seen (subst IsDialling live dials) stage (asked_by made state 0 reply.Dialled here live (look made stage seen) stage seen is.phase)
+asks_dial : (here : Asked) → IsDialling (phase.Asked here) → is_dial here ≡ true
+asks_dial (asked.Idle flow expects) dials = absurd dials
+asks_dial (asked.RequestBody flow) dials = absurd dials
+asks_dial (asked.Connection flow server) dials = refl
+asks_dial (asked.ResponseHead flow server) dials = absurd dials
+asks_dial (asked.ResponseBody flow server) dials = absurd dials
+asks_dial (asked.GivenHead flow) dials = absurd dials
+asks_dial (asked.GivenBody flow) dials = absurd dials
+
+-- the flow's connection is awaited there
+pub record IsAtDial (stage : Stage) : Type 0 where
+  pub at : At
+  pub flow : Flow
+  pub stage_is : stage ≡ busy at flow connection
+
+dialling_for : (at : At) (flow : Flow) (doing : Doing) → dials_at (busy at flow doing) ≡ true → IsAtDial (busy at flow doing)
+dialling_for at flow (request_body given) is = absurd (let no : false ≡ true = is in cc)
+dialling_for at flow connection is = record { at = at; flow = flow; stage_is = refl }
+dialling_for at flow (response_head server how) is = absurd (let no : false ≡ true = is in cc)
+dialling_for at flow (response_body server how) is = absurd (let no : false ≡ true = is in cc)
+dialling_for at flow (upgraded server) is = absurd (let no : false ≡ true = is in cc)
+dialling_for at flow given_head is = absurd (let no : false ≡ true = is in cc)
+dialling_for at flow given_body is = absurd (let no : false ≡ true = is in cc)
+
+dialling : (stage : Stage) → dials_at stage ≡ true → IsAtDial stage
+dialling (idle at) is = absurd (let no : false ≡ true = is in cc)
+dialling (busy at flow doing) is = dialling_for at flow doing is
+dialling (next at) is = absurd (let no : false ≡ true = is in cc)
+dialling over is = absurd (let no : false ≡ true = is in cc)
+
+pub is_at_dial : (made : Terms) (state : Stream) (stage : Stage) (seen : Sight) → IsDialling state.phase → IsIn made state stage seen → IsAtDial stage
+is_at_dial made state stage seen dials is =
+    let (here, live) = dial_in state.phase dials in
+    let asks = asked_at made state stage seen here live is in
+    dialling stage (sym (dial_asked made stage seen here asks.2.asks) ∙ asks_dial here (subst IsDialling live dials))
+
+-- what its readers keep there
+pub record Dialled (made : Terms) (state : Stream) (at : At) (flow : Flow) (seen : Sight) : Type 0 where
+  pub place : IsPlaced at seen state.at state.client_closed
+  pub keeps : Keeps seen.client state.requests
+  pub side : state.side ≡ parked_link at.parked seen
+
+pub dialled_at : (made : Terms) (state : Stream) (at : At) (flow : Flow) (seen : Sight) → IsIn made state (busy at flow connection) seen → Dialled made state at flow seen
+dialled_at made state at flow seen is = let (here, same, asks) = is.phase in record { place = is.place; keeps = asks.request; side = asks.has_side }
 
 -- what its readers may hear there
 pub waits_open : (state : Stream) → IsDialling state.phase → Somewhere state → state.requests.closed ≡ false
 waits_open state dials (made, ahead, place, prefix, there) =
-    let (here, live) = asked_at state.phase dials in (is_at_dial made state here place.stage (sight_over place prefix) dials live there.is_at.is_in).keeps.open_still
+    let seen : Sight = sight_over place prefix in
+    let dial = is_at_dial made state place.stage seen dials there.is_at.is_in in
+    (dialled_at made state dial.at dial.flow seen (subst (λ s. IsIn made state s seen) dial.stage_is there.is_at.is_in)).keeps.open_still
 
-pub waits_agree : (state : Stream) → IsDialling state.phase → Somewhere state → ParkedAgrees state.parked
+parked_agrees : (parked : Option Parked) (seen : Sight) → SideAgrees (parked_link parked seen)
+parked_agrees None seen = tt
+parked_agrees (Some parked) seen = refl
+
+pub waits_agree : (state : Stream) → IsDialling state.phase → Somewhere state → SideAgrees state.side
 waits_agree state dials (made, ahead, place, prefix, there) =
-    let (here, live) = asked_at state.phase dials in
-    let dial = is_at_dial made state here place.stage (sight_over place prefix) dials live there.is_at.is_in in
-    let L : Stage → Type 0 = IsLive in
-    parked_agrees made.place place.stage (sight_over place prefix) state.parked (subst L (sym dial.stage_is) tt) there.is_at.is_in.parked
+    let seen : Sight = sight_over place prefix in
+    let dial = is_at_dial made state place.stage seen dials there.is_at.is_in in
+    let is = dialled_at made state dial.at dial.flow seen (subst (λ s. IsIn made state s seen) dial.stage_is there.is_at.is_in) in
+    subst SideAgrees (sym is.side) (parked_agrees dial.at.parked seen)
 
 -- ---- behind the client's close nothing is heard
 
@@ -115,14 +149,14 @@ parked_bytes : (parked : Option Parked) (opened : ℕ) (prefix : List (Timed Eve
     bytes_over (side_parked parked) opened (prefix ++ e ∷ []) ≡ bytes_over (side_parked parked) opened prefix
 parked_bytes None opened prefix e within in_time closed = refl
 parked_bytes (Some parked) opened prefix e within in_time closed =
-    let side : Side = Server parked.side.server in
+    let side : Side = Server parked.server in
     ap (λ l. bytes_of side l) (drop-append-le opened prefix (e ∷ []) within) ∙ bytes_past side (drop opened prefix) e (in_time closed)
 
 parked_shut : (parked : Option Parked) (opened : ℕ) (prefix : List (Timed Event)) (e : Timed Event) → opened ≤ length prefix → OpensInTime parked opened prefix → client_closed prefix ≡ true →
     shut_over (side_parked parked) opened (prefix ++ e ∷ []) ≡ shut_over (side_parked parked) opened prefix
 parked_shut None opened prefix e within in_time closed = refl
 parked_shut (Some parked) opened prefix e within in_time closed =
-    let side : Side = Server parked.side.server in
+    let side : Side = Server parked.server in
     ap (λ l. is_closed side l) (drop-append-le opened prefix (e ∷ []) within) ∙ shut_past side (drop opened prefix) e (in_time closed)
 
 abbrev sees : List ℕ → Bool → List ℕ → Bool → ℕ → Sight
@@ -133,109 +167,228 @@ sees_eq : (client client' : List ℕ) (closed closed' : Bool) (server server' : 
 sees_eq client client' closed closed' server server' shut shut' now now' a b c d f = rw (a, b, c, d, f) refl
 
 -- but the moment goes on
-sight_past : (side : Option ServerSide) (parked : Option Parked) (since : Since) (opened : ℕ) (prefix : List (Timed Event)) (e : Timed Event) → side ≡ side_parked parked → since.events ≤ length prefix →
+sight_late : (parked : Option Parked) (since : Since) (opened : ℕ) (used : UsedBytes) (prefix : List (Timed Event)) (e : Timed Event) → since.events ≤ length prefix →
     opened ≤ length prefix → OpensInTime parked opened prefix → client_closed prefix ≡ true →
-    sight_of side since opened (prefix ++ e ∷ []) ≡ record (sight_of side since opened prefix) { now = e.moment }
-sight_past side parked since opened prefix e is within opened_within in_time closed =
-    let P : Option ServerSide → Type 0 = λ s. sight_of s since opened (prefix ++ e ∷ []) ≡ record (sight_of s since opened prefix) { now = e.moment } in
-    subst P (sym is)
-    (sees_eq _ _ _ _ _ _ _ _ _ _ (bytes_past Client prefix e closed) (shut_past Client prefix e closed) (parked_bytes parked opened prefix e opened_within in_time closed)
-    (parked_shut parked opened prefix e opened_within in_time closed) (now_more since prefix e within))
+    sight_of (side_parked parked) since opened used (prefix ++ e ∷ []) ≡ record (sight_of (side_parked parked) since opened used prefix) { now = e.moment }
+sight_late parked since opened used prefix e within opened_within in_time closed =
+    sees_eq _ _ _ _ _ _ _ _ _ _ (ap (λ l. drop used.client l) (bytes_past Client prefix e closed)) (shut_past Client prefix e closed)
+    (ap (λ l. drop used.server l) (parked_bytes parked opened prefix e opened_within in_time closed))
+    (parked_shut parked opened prefix e opened_within in_time closed) (now_more since prefix e within)
 
 -- ---- one event more
 
 -- the parked side is the same at another moment
-moved_parked : (place : Place) (parked : Option Parked) (seen : Sight) (moment : ℕ) (kept : Option KeptLink) → IsParked place parked seen kept → IsParked place parked (record seen { now = moment }) kept
-moved_parked place None seen moment None is = tt
-moved_parked place None seen moment (Some kept) is = absurd is
-moved_parked place (Some parked) seen moment None is = absurd is
-moved_parked place (Some parked) seen moment (Some kept) is =
-    record { home = is.home; unread = record { server = is.unread.server; closed = is.unread.closed; within = is.unread.within; responses = is.unread.responses } }
+moved_parked : (parked : Option Parked) (seen : Sight) (moment : ℕ) → parked_link parked seen ≡ parked_link parked (record seen { now = moment })
+moved_parked None seen moment = refl
+moved_parked (Some parked) seen moment = refl
 
-module _ (made : Terms) (before after : Stream) (at : At) (flow : Flow) (terms : after.terms ≡ before.terms) (numbers : after.numbers ≡ before.numbers) (same : after.phase ≡ before.phase) where
+module _ (made : Terms) (before after : Stream) (at : At) (flow : Flow) (terms : after.terms ≡ before.terms) (same_at : after.at ≡ before.at) (same : after.phase ≡ before.phase) where
   abbrev waits : Stage
   waits = busy at flow connection
 
   -- a state that keeps what stands behind the request in another sight, waits there
-  waits_in : (seen later : Sight) → IsIn made before waits seen → IsPlaced at later before.numbers after.client_closed → (KeepsBehind at.used seen before.requests → KeepsBehind at.used later after.requests) →
-      IsParked made.place at.parked later after.parked → IsIn made after waits later
-  waits_in seen later is place keeps parked =
-      let N : Numbers → Type 0 = λ n. IsPlaced at later n after.client_closed in
-      let (here, live, held) = is.phase in
+  waits_in : (seen later : Sight) → IsIn made before waits seen → after.client_closed ≡ later.closed → Keeps later.client after.requests → after.side ≡ parked_link at.parked later → IsIn made after waits later
+  waits_in seen later is client keeps parked =
+      let (here, live, asks) = is.phase in
       record {
         terms = terms ∙ is.terms;
-        place = subst N (sym numbers) place;
-        phase = (here, same ∙ live, record { phase = held.phase; keeps = keeps held.keeps });
-        dials = is.dials;
-        parked = parked;
+        place = record { is_here = same_at ∙ is.place.is_here; client = client };
+        phase = (here, same ∙ live, record { asks = asks.asks; request = keeps; has_side = parked });
       }
 
   -- and over one event more
   waits_over : (ahead : ℕ) (place : Standing) (prefix : List (Timed Event)) (e : Timed Event) → place.stage ≡ waits → IsInSequence made ahead before place prefix →
       (later : Sight) → sight_over place (prefix ++ e ∷ []) ≡ later → IsIn made after waits later → IsInSequence made ahead after place (prefix ++ e ∷ [])
-  waits_over ahead place prefix e stands there later over_later is =
-      let S : Stage → Type 0 = λ s. IsIn made after s (sight_over place (prefix ++ e ∷ [])) in
-      let L : Sight → Type 0 = λ s. IsIn made after waits s in
-      record {
-        is_at = record { within = within_more place prefix e there.is_at.within; is_in = subst S (sym stands) (subst L (sym over_later) is) };
-        few = there.few;
-        small = there.small;
-      }
+  waits_over ahead place prefix e stands there later over_later is = record {
+    is_at = record {
+      within = within_more place prefix e there.is_at.within;
+      is_in = subst (λ s. IsIn made after s (sight_over place (prefix ++ e ∷ []))) (sym stands) (subst (λ s. IsIn made after waits s) (sym over_later) is);
+    };
+    few = there.few;
+    small = there.small;
+  }
 
 module _ (before : Stream) (event : Event) where
   -- behind the client's close
-  past : before.client_closed ≡ true → (made : Terms) (ahead : ℕ) (place : Standing) (prefix : List (Timed Event)) (moment : ℕ) (at : At) (flow : Flow) →
-      place.stage ≡ busy at flow connection → OpensInTime at.parked place.opened prefix → IsInSequence made ahead before place prefix →
-      IsInSequence made ahead before place (prefix ++ (record { moment = moment; value = event }) ∷ [])
-  past is_closed_there made ahead place prefix moment at flow stands in_time there =
-      let e : Timed Event = record { moment = moment; value = event } in
-      let seen : Sight = sight_over place prefix in
-      let P : Stage → Type 0 = λ s. IsIn made before s seen in
-      let here : IsIn made before (busy at flow connection) seen = subst P stands there.is_at.is_in in
-      let closed : client_closed prefix ≡ true = sym here.place.client ∙ is_closed_there in
-      let within = there.is_at.within in
-      let later = sight_past (side_of place.stage) at.parked place.since place.opened prefix e (ap side_of stands) within.since within.opened in_time closed in
-      waits_over made before before at flow refl refl refl ahead place prefix e stands there (record seen { now = moment }) later
-      (waits_in made before before at flow refl refl refl seen (record seen { now = moment }) here
-      (record { index = here.place.index; servers = here.place.servers; client = here.place.client; used = here.place.used })
-      (λ keeps. record { rest = keeps.rest; open_still = keeps.open_still }) (moved_parked made.place at.parked seen moment before.parked here.parked))
-
   pub hears_past : before.client_closed ≡ true → HearsWaiting before before event
-  hears_past closed = record { hears = past closed }
+  hears_past is_closed_there = record {
+    hears = λ made ahead place prefix moment at flow stands in_time there.
+        let e : Timed Event = record { moment = moment; value = event } in
+        let seen : Sight = sight_over place prefix in
+        let here : IsIn made before (busy at flow connection) seen = subst (λ s. IsIn made before s seen) stands there.is_at.is_in in
+        let is = dialled_at made before at flow seen here in
+        let closed : client_closed prefix ≡ true = sym is.place.client ∙ is_closed_there in
+        let within = there.is_at.within in
+        let side : side_of place.stage ≡ side_parked at.parked = ap side_of stands in
+        let late : sight_over place (prefix ++ e ∷ []) ≡ record seen { now = moment } =
+        subst (λ s. sight_of s place.since place.opened place.used (prefix ++ e ∷ []) ≡ record (sight_of s place.since place.opened place.used prefix) { now = moment }) (sym side)
+        (sight_late at.parked place.since place.opened place.used prefix e within.since within.opened in_time closed) in
+        waits_over made before before at flow refl refl refl ahead place prefix e stands there (record seen { now = moment }) late
+        (waits_in made before before at flow refl refl refl seen (record seen { now = moment }) here is.place.client (record { rest = is.keeps.rest; open_still = is.keeps.open_still })
+        (is.side ∙ moved_parked at.parked seen moment));
+  }
 
-  module _ (requests : State) (closed : Bool) (parked : Option KeptLink) (took : requests ≡ requests_take event before.requests) (closes_now : closed ≡ closes_client event before.client_closed)
-      (parked_is : parked ≡ parked_takes event before.parked) where
-    abbrev after : Stream
-    after = record before { requests = requests; client_closed = closed; parked = parked }
-
-    -- while the client has not closed
-    on : before.client_closed ≡ false → (made : Terms) (ahead : ℕ) (place : Standing) (prefix : List (Timed Event)) (moment : ℕ) (at : At) (flow : Flow) →
-        place.stage ≡ busy at flow connection → OpensInTime at.parked place.opened prefix → IsInSequence made ahead before place prefix →
-        IsInSequence made ahead after place (prefix ++ (record { moment = moment; value = event }) ∷ [])
-    on is_open made ahead place prefix moment at flow stands in_time there =
+  -- while the client has not closed
+  pub hears_on : (after : Stream) → after.phase ≡ before.phase → Hears before after event → before.client_closed ≡ false → HearsWaiting before after event
+  hears_on after same heard is_open = record {
+    hears = λ made ahead place prefix moment at flow stands in_time there.
         let e : Timed Event = record { moment = moment; value = event } in
         let seen : Sight = sight_over place prefix in
         let later : Sight = sight_with (side_parked at.parked) seen event moment in
-        let waiting : Stage = busy at flow connection in
-        let P : Stage → Type 0 = λ s. IsIn made before s seen in
-        let here : IsIn made before waiting seen = subst P stands there.is_at.is_in in
-        let open_client : client_closed prefix ≡ false = sym here.place.client ∙ is_open in
+        let here : IsIn made before (busy at flow connection) seen = subst (λ s. IsIn made before s seen) stands there.is_at.is_in in
+        let is = dialled_at made before at flow seen here in
+        let open_client : client_closed prefix ≡ false = sym is.place.client ∙ is_open in
         let grows : sight_over place (prefix ++ e ∷ []) ≡ later = sight_more place prefix e open_client there.is_at.within ∙ ap (λ s. sight_with (side_of s) seen event moment) stands in
-        let C : Bool → Type 0 = λ c. IsPlaced at later before.numbers c in
-        let K : State → Type 0 = λ s. KeepsBehind at.used later s in
-        let L : Option KeptLink → Type 0 = λ s. IsParked made.place at.parked later s in
-        waits_over made before after at flow refl refl refl ahead place prefix e stands there later grows
-        (waits_in made before after at flow refl refl refl seen later here
-        (subst C (sym closes_now) (place_on waiting seen event moment before.numbers before.client_closed here.place))
-        (λ keeps. subst K (sym took) (keeps_on seen event moment (side_parked at.parked) at.used before.requests here.place.used keeps))
-        (subst L (sym parked_is) (parked_took made.place at.parked seen event moment before.parked here.parked)))
+        waits_over made before after at flow heard.terms heard.at same ahead place prefix e stands there later grows
+        (waits_in made before after at flow heard.terms heard.at same seen later here
+        (heard.client ∙ (placed_on at (side_parked at.parked) seen event moment before.at before.client_closed is.place).client)
+        (subst (Keeps later.client) (sym heard.requests) (keeps_took seen.client before.requests event is.keeps))
+        (heard.side ∙ parked_took at.parked seen event moment before.side is.side));
+  }
 
-    pub hears_on : before.client_closed ≡ false → HearsWaiting before after event
-    hears_on is_open = record { hears = on is_open }
+-- ---- it is connected
 
--- where it was heard, all three are as the event has them
-pub hears_where : {T E : Type 0} (r : Result T E) (before : Stream) (event : Event) (requests : State) (closed : Bool) (parked : Option KeptLink) → before.client_closed ≡ false →
-    OnOk r (requests ≡ requests_take event before.requests) → OnOk r (closed ≡ closes_client event before.client_closed) → OnOk r (parked ≡ parked_takes event before.parked) →
-    OnOk r (HearsWaiting before (record before { requests = requests; client_closed = closed; parked = parked }) event)
-hears_where (Ok x) before event requests closed parked is_open took closes_now parked_is = hears_on before event requests closed parked took closes_now parked_is is_open
-hears_where (Err x) before event requests closed parked is_open took closes_now parked_is = tt
+module _ (before turned : Stream) (moment : ℕ) (found : Asked) (looked : Wanted) (out between : List Command) (dials : IsDialling before.phase) (live : before.phase ≡ phase.Asked found)
+    (call : TurnsTo before turned moment reply.Dialled found looked out between) where
+  abbrev answer : Timed Reply
+  answer = record { moment = moment; value = reply.Dialled }
+
+  -- where its request was sent
+  abbrev answering : Terms → At → Flow → Stage
+  answering made at flow = busy (record at { dials = at.dials + 1; parked = None }) (reached made.place flow) (response_head at.dials all_sent)
+
+  record Connected (made : Terms) (at : At) (flow : Flow) (seen : Sight) : Type 0 where
+    owes : between ≡ out ++ connected_owes made.place flow at.dials
+    terms : turned.terms ≡ made
+    stage : stage_of turned.at looked ≡ answering made at flow
+    place : turned.at ≡ record at { dials = at.dials + 1; parked = None }
+    client : turned.client_closed ≡ seen.closed
+    keeps : Keeps seen.client turned.requests
+    side : turned.side ≡ Some (unread_link at.dials (is_head flow.request.method) [] false)
+
+  connected : (made : Terms) (at : At) (flow : Flow) (seen : Sight) → IsIn made before (busy at flow connection) seen → Connected made at flow seen
+  connected made at flow seen is =
+      let (owes, there) = turns_in before moment reply.Dialled found live made (busy at flow connection) seen is turned looked out between call in
+      let asks = asked_at made before (busy at flow connection) seen found live is in
+      record {
+        owes = owes;
+        terms = call.terms ∙ is.terms;
+        stage = there.is_ready.is_stage;
+        place = there.place.is_here;
+        client = there.place.client;
+        keeps = record { rest = there.is_ready.request.rest; open_still = there.is_ready.request.open_still };
+        side = call.side ∙ (ap (λ d. side_behind d (stage_of turned.at looked) before.side) (dial_asked made (busy at flow connection) seen found asks.2.asks)
+            ∙ ap (λ s. side_behind true s before.side) there.is_ready.is_stage);
+      }
+
+  record AtConnected : Type 0 where
+    made : Terms
+    at : At
+    flow : Flow
+    seen : Sight
+    was : IsIn made before (busy at flow connection) seen
+    few : Connected made at flow seen
+
+  somewhere : Somewhere before → AtConnected
+  somewhere (made, ahead, place, prefix, there) =
+      let seen : Sight = sight_over place prefix in
+      let dial = is_at_dial made before place.stage seen dials there.is_at.is_in in
+      let was = subst (λ s. IsIn made before s seen) dial.stage_is there.is_at.is_in in
+      record { made = made; at = dial.at; flow = dial.flow; seen = seen; was = was; few = connected made dial.at dial.flow seen was }
+
+  -- its side was told of no close
+  pub reach_unshut : Somewhere before → IsUnshut turned.side
+  reach_unshut stands = subst IsUnshut (sym (somewhere stands).few.side) refl
+
+  module _ (side : Option Link) (rest : List ℕ) (fed : side ≡ side_with (λ link. record link { responses = feeds rest link.responses }) turned.side) where
+    abbrev given : Stream
+    given = record turned { side = side }
+
+    ready_in : (made : Terms) (at : At) (flow : Flow) (seen later : Sight) → Connected made at flow seen → later.client ≡ seen.client → later.server ≡ rest → later.shut ≡ false →
+        IsReady turned.at turned.requests side looked (answering made at flow) later []
+    ready_in made at flow seen later is client come unshut =
+        let asked_head : Bool = is_head flow.request.method in
+        let opened : side ≡ Some (unread_link at.dials asked_head rest false) = fed ∙ ap (side_with (λ link. record link { responses = feeds rest link.responses })) is.side in
+        record {
+          is_stage = is.stage;
+          request = record { rest = is.keeps.rest ∙ sym client; open_still = is.keeps.open_still };
+          has_side = subst (IsOpen (IsLink (reached made.place flow).request at.dials later [] [])) (sym opened)
+              (subst (λ l. ReadsLink asked_head at.dials l later.shut [] [] (unread_link at.dials asked_head rest false)) (sym come)
+              (subst (λ b. ReadsLink asked_head at.dials rest b [] [] (unread_link at.dials asked_head rest false)) (sym unshut) (unread_reads asked_head at.dials rest false)));
+        }
+
+    pub reach_looks : Somewhere before → MayLook looked turned.requests side
+    reach_looks stands =
+        let is = somewhere stands in
+        let later : Sight = record { client = is.seen.client; closed = is.seen.closed; server = rest; shut = false; now = moment } in
+        may_look turned.at turned.requests side looked (answering is.made is.at is.flow) later [] (ready_in is.made is.at is.flow is.seen later is.few refl refl refl)
+
+    module _ (after : Stream) (longer : List Command) (once : LooksOnce given after moment looked between longer) where
+      reached_in : (made : Terms) (at : At) (flow : Flow) (seen later : Sight) → Connected made at flow seen → later.client ≡ seen.client → later.closed ≡ seen.closed → later.server ≡ rest → later.shut ≡ false →
+          moment ≡ later.now → LookedIn made given after (answering made at flow) later [] between longer
+      reached_in made at flow seen later is client shut come unshut now =
+          looked_in made given after moment looked between longer (answering made at flow) later [] is.terms now (ready_in made at flow seen later is client come unshut)
+          (record { is_here = is.place; client = is.client ∙ sym shut }) once
+
+      -- as far as one place tells it
+      record Somehow : Type 0 where
+        is : AtConnected
+        got : LookedIn is.made given after (answering is.made is.at is.flow) (record { client = is.seen.client; closed = is.seen.closed; server = rest; shut = false; now = moment }) [] between longer
+
+      somehow : Somewhere before → Somehow
+      somehow stands =
+          let is = somewhere stands in
+          record {
+            is = is;
+            got = reached_in is.made is.at is.flow is.seen (record { client = is.seen.client; closed = is.seen.closed; server = rest; shut = false; now = moment }) is.few refl refl refl refl refl;
+          }
+
+      grown_by : (here : Somehow) → longer ≡ out ++ (connected_owes here.is.made.place here.is.flow here.is.at.dials ++ here.got.more)
+      grown_by here =
+          let owed : List Command = connected_owes here.is.made.place here.is.flow here.is.at.dials in
+          here.got.grown ∙ (ap (λ l. l ++ here.got.more) here.is.few.owes ∙ append_assoc out owed here.got.more)
+
+      reaches_to : (made : Terms) (ahead : ℕ) (from to : Standing) (prefix : List (Timed Event)) (more : List Command) → longer ≡ out ++ more →
+          (may : MayReach made ahead before moment rest from to prefix) → ReachesThere made ahead after more to prefix may.at may.flow
+      reaches_to made ahead from to prefix more grown may =
+          let seen : Sight = sight_over from prefix in
+          let later : Sight = sight_over to prefix in
+          let owed : List Command = connected_owes made.place may.flow may.at.dials in
+          let was : IsIn made before (busy may.at may.flow connection) seen = subst (λ s. IsIn made before s seen) may.dialling may.there.is_at.is_in in
+          let is = connected made may.at may.flow seen was in
+          let got = subst (λ s. LookedIn made given after s later [] between longer) (sym may.stage)
+          (reached_in made may.at may.flow seen later is (ap (λ n. drop n (bytes_of Client prefix)) may.client) refl may.come may.unshut may.now) in
+          let parts : more ≡ owed ++ got.more =
+          same_tail out more (owed ++ got.more) (sym grown ∙ (got.grown ∙ (ap (λ l. l ++ got.more) is.owes ∙ append_assoc out owed got.more))) in
+          let few : IsFew ahead (busy may.at may.flow connection) = subst (IsFew ahead) may.dialling may.there.few in
+          let few_there : IsFew ahead (answering made may.at may.flow) = (let d = few.dials in record { few = few.few; dials = omega arith }) in
+          record {
+            is_there = record {
+              is_at = at_walked made to prefix later refl after may.within got.is_in;
+              few = subst (λ s. IsFew ahead (pass s later)) (sym may.stage) few_there;
+              small = may.there.small;
+            };
+            gives = λ view. ap (seen_of view) parts ∙ (seen_append view owed got.more
+                ∙ (ap (λ l. seen_of view owed ++ l) (gives_walked made to prefix later refl view [] got.more (ap (λ l. l ++ got.more) (sym (none_sent to.stage)) ∙ got.owes))
+                ∙ sym (seen_append view owed (owed_over (http_chain sequence made) to prefix))));
+          }
+
+      pub reach_goes : Somewhere before → Reaches before after moment rest out longer
+      reach_goes stands =
+          let here = somehow stands in
+          let more : List Command = connected_owes here.is.made.place here.is.flow here.is.at.dials ++ here.got.more in
+          record { more = more; grown = grown_by here; reaches = λ made ahead from to prefix may. reaches_to made ahead from to prefix more (grown_by here) may }
+
+      -- what it asked is awaited
+      pub reach_asks : Somewhere before → AsksOnly (awaits after) out longer
+      reach_asks stands =
+          let here = somehow stands in
+          (connected_owes here.is.made.place here.is.flow here.is.at.dials ++ here.got.more, grown_by here, looked_asks here.is.made given after _ _ between longer here.got)
+
+      -- one answer less is left
+      pub reach_left : Somewhere before → sequence_left after < sequence_left before
+      reach_left stands =
+          let here = somehow stands in
+          let same : sequence_left before ≡ stages_left (busy here.is.at here.is.flow connection) = left_asks here.is.made before (busy here.is.at here.is.flow connection) here.is.seen here.is.was _ refl in
+          let most : sequence_left after ≤ stages_left (answering here.is.made here.is.at here.is.flow) = at_most here.is.made after _ _ here.got.is_in in
+          omega arith

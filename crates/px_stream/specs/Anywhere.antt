@@ -1,32 +1,53 @@
--- The machine beside a longer chain, which flows in sequence are a part of: what a call does wherever it stands. So whoever goes on
--- from flows to something else, over the same events, has the calls of a stream for the part that is theirs.
-use Rattle.std.specs.Prelude.{◌≡◌, ◌≤◌, ◌+◌, ℕ, Bool, true, false, List, [], ◌∷◌, ◌++◌, drop, length, Option, Some, None, ⊤}
+-- What the calls of a stream do beside a chain that flows in sequence are a part of, wherever they stand there. So whoever has other things
+-- before or behind those flows, over the same events, has these calls for the part that is theirs.
+use Rattle.std.specs.Prelude.{◌≡◌, ◌≤◌, ◌<◌, ◌+◌, ℕ, Bool, true, false, List, [], ◌∷◌, ◌++◌, drop, Option, Some, None, ⊤}
+use Rattle.px_message.specs.declared.flow.Flow.{Flow}
+use Rattle.px_message.specs.declared.response.Response.{Response}
 use Rattle.px_event.specs.declared.command.Command.{Command}
 use Rattle.px_event.specs.declared.event.Event.{Event}
 use Rattle.px_event.specs.declared.reply.Reply.{Reply}
-use Rattle.px_event.specs.declared.side.Side.TheVariants.{Client, Server}
 use Rattle.px_event.specs.Chain.{Timed}
 use Rattle.px_event.specs.Laws.{owed_over}
 use Rattle.px_event.specs.View.{View, seen_of}
 use Rattle.px_event.proofs.Steps.{Takes, Resumes}
-use Rattle.px_message.specs.declared.flow.Flow.{Flow}
 use Rattle.px_read.specs.Reader.{before_all, request}
 use Rattle.px_exchange.specs.Dials.{connected_owes}
-use Rattle.px_exchange.specs.declared.place.Place.{Place}
 use Rattle.px_exchange.specs.declared.terms.Terms.{Terms}
-use Rattle.px_stream.specs.declared.link.Link.{Link as KeptLink}
-use Rattle.px_chain.specs.Chain.{http_chain, reached, sequence}
+use Rattle.px_chain.specs.Chain.{http_chain, parked_of, reached, sequence}
 use Rattle.px_chain.specs.Sights.{IsWithin, Sight, Standing, sight_over}
-use Rattle.px_chain.specs.Stages.{At, Parked, ServerSide, all_sent, busy, connection, idle, response_head}
-use Rattle.px_chain.specs.Streams.{bytes_of, client_closed, is_closed, now_over}
+use Rattle.px_chain.specs.Stages.{At, Doing, Parked, Stage, all_sent, busy, connection, given_head, idle, next, over, request_body, response_head}
+use Rattle.px_chain.specs.Streams.{client_closed, now_over}
+use Rattle.px_stream.specs.declared.link.Link.{Link}
 use Rattle.px_stream.specs.declared.phase.Phase.TheVariants as phase
 use Rattle.px_stream.specs.declared.phase.Wanted.TheVariants as ready
 use Rattle.px_stream.specs.declared.stream.Stream.{Stream}
-use Rattle.px_stream.specs.Sequence.{IsCounted, IsInSequence}
-use Rattle.px_stream.specs.Phases.{new_link, parked_at}
-use Rattle.px_stream.specs.Stands.{home_of}
+use Rattle.px_stream.specs.Stands.{IsAt, parked_link, unread_link}
 
--- it stands where some walk over flows in sequence stopped
+-- The flow is one of those that a conversation may have, and its servers are few: at most so many more than the flows before it.
+pub record IsCounted (ahead : ℕ) (at : At) : Type 0 where
+  pub few : at.flow < 1000000
+  pub dials : at.dials ≤ at.flow + ahead
+
+-- one more where the flow has dialled, or may have
+abbrev pub IsFewFor : ℕ → At → Doing → Type 0
+IsFewFor ahead at (request_body given) = IsCounted ahead at
+IsFewFor ahead at connection = IsCounted ahead at
+IsFewFor ahead at doing = IsCounted (ahead + 1) at
+
+abbrev pub IsFew : ℕ → Stage → Type 0
+IsFew ahead (idle at) = IsCounted ahead at
+IsFew ahead (busy at flow doing) = IsFewFor ahead at doing
+IsFew ahead (next at) = IsCounted ahead at
+IsFew ahead over = ⊤
+
+-- A state that was made on these terms, where a walk over flows in sequence stopped: each flow dials once at most, and a server
+-- may have been dialled before them all.
+pub record IsInSequence (made : Terms) (ahead : ℕ) (state : Stream) (place : Standing) (prefix : List (Timed Event)) : Type 0 where
+  pub is_at : IsAt made state place prefix
+  pub few : IsFew ahead place.stage
+  pub small : ahead ≤ 1
+
+-- it stands where some such walk stopped
 abbrev pub Somewhere : Stream → Type 0
 Somewhere state = (made : Terms) × (ahead : ℕ) × (place : Standing) × (prefix : List (Timed Event)) × IsInSequence made ahead state place prefix
 
@@ -46,48 +67,38 @@ pub record ResumesAnywhere (before after : Stream) (moment : ℕ) (reply : Reply
 
 -- ---- a stream that begins where others have been
 
--- it was handed nothing yet
+-- a parked side of which nothing was heard yet
+abbrev pub unheard : Option Parked → Option Link
+unheard None = None
+unheard (Some parked) = Some (unread_link parked.server false [] false)
+
+-- It was handed nothing yet. A side that its place has is parked.
 pub record IsNew (state : Stream) : Type 0 where
   pub requests : state.requests ≡ before_all request [] false
   pub client : state.client_closed ≡ false
-  -- and nothing of a side that is parked
-  pub parked : state.parked ≡ parked_at state.terms.place
+  pub parked : state.at.parked ≡ parked_of state.terms.place
+  pub side : state.side ≡ unheard state.at.parked
   pub phase : state.phase ≡ phase.Ready ready.Idle
-  -- a server's number is one of 32 bits
-  pub fits : state.numbers.server ≤ 4294967295
 
--- These are the bytes of the parked side that wait behind those that others have used, and its server has not closed: the stream heard none
--- of them.
-pub record IsWaiting (place : Place) (parked : Parked) (seen : Sight) (waiting : List ℕ) (kept : KeptLink) : Type 0 where
-  pub home : home_of place ≡ Some parked.address
-  pub link : kept ≡ new_link parked.side.server false
-  pub within : parked.side.used ≤ length seen.server
-  pub come : drop parked.side.used seen.server ≡ waiting
-  pub unshut : seen.shut ≡ false
-
-abbrev pub Waits : Place → Option Parked → Sight → List ℕ → Option KeptLink → Type 0
-Waits place None seen waiting None = ⊤
-Waits place (Some parked) seen waiting (Some kept) = IsWaiting place parked seen waiting kept
-Waits place parked seen waiting kept = ⊥
+-- of the parked side these bytes wait that others have not used, and its server has not closed
+abbrev pub Waits : Option Parked → Sight → List ℕ → Type 0
+Waits None seen waiting = ⊤
+Waits (Some parked) seen waiting = (seen.server ≡ waiting) × (seen.shut ≡ false)
 
 -- A new stream may begin at this place and over this prefix, where a request is awaited: it was made for it, these are the client's
 -- bytes that were not used before and those of the parked side, and it is known whether the client has closed.
 pub record MayBegin (made : Terms) (ahead : ℕ) (state : Stream) (moment : ℕ) (closed : Bool) (rest waiting : List ℕ) (place : Standing) (prefix : List (Timed Event)) : Type 0 where
   pub terms : state.terms ≡ made
-  pub at : At
-  pub stage : place.stage ≡ idle at
-  pub flow : state.numbers.flow ≡ at.flow
-  pub server : state.numbers.server ≡ at.dials
-  pub few : IsCounted ahead at
+  pub stage : place.stage ≡ idle state.at
+  pub few : IsCounted ahead state.at
   pub small : ahead ≤ 1
-  pub used : at.used ≤ length (bytes_of Client prefix)
-  pub come : drop at.used (bytes_of Client prefix) ≡ rest
+  pub come : (sight_over place prefix).client ≡ rest
   pub client : client_closed prefix ≡ closed
-  pub parked : Waits made.place at.parked (sight_over place prefix) waiting state.parked
+  pub waits : Waits state.at.parked (sight_over place prefix) waiting
   pub within : IsWithin place prefix
   pub now : moment ≡ now_over place.since prefix
 
--- It heard them and looked once: it is where the chain is there, and gave what is owed there.
+-- It looked once: it is where the chain is there, and gave what is owed there.
 pub record BeginsThere (made : Terms) (ahead : ℕ) (after : Stream) (more : List Command) (place : Standing) (prefix : List (Timed Event)) : Type 0 where
   pub is_there : IsInSequence made ahead after ((http_chain sequence made).pass place prefix).stage prefix
   pub gives : (view : View) → seen_of view more ≡ seen_of view (owed_over (http_chain sequence made) place prefix)
@@ -96,6 +107,29 @@ pub record Begins (before after : Stream) (moment : ℕ) (closed : Bool) (rest w
   pub more : List Command
   pub grown : longer ≡ out ++ more
   pub begins : (made : Terms) (ahead : ℕ) (place : Standing) (prefix : List (Timed Event)) → MayBegin made ahead before moment closed rest waiting place prefix →
+      BeginsThere made ahead after more place prefix
+
+-- What follows a whole request that others have read and asked about, by the response that was given in place of the server's, if one was.
+abbrev pub doing_by : Option Response → Doing
+doing_by None = connection
+doing_by (Some response) = given_head
+
+-- A new stream may go on with this flow at this place and over this prefix: it was made for it, and the client has sent nothing that is not used, and has not closed.
+pub record MayGoOn (made : Terms) (ahead : ℕ) (state : Stream) (moment : ℕ) (flow : Flow) (place : Standing) (prefix : List (Timed Event)) : Type 0 where
+  pub terms : state.terms ≡ made
+  pub stage : place.stage ≡ busy state.at flow (doing_by flow.response)
+  pub few : IsCounted ahead state.at
+  pub small : ahead ≤ 1
+  pub come : (sight_over place prefix).client ≡ []
+  pub client : client_closed prefix ≡ false
+  pub parked : state.side ≡ parked_link state.at.parked (sight_over place prefix)
+  pub within : IsWithin place prefix
+  pub now : moment ≡ now_over place.since prefix
+
+pub record GoesOnWith (before after : Stream) (moment : ℕ) (flow : Flow) (out longer : List Command) : Type 0 where
+  pub more : List Command
+  pub grown : longer ≡ out ++ more
+  pub goes_on : (made : Terms) (ahead : ℕ) (place : Standing) (prefix : List (Timed Event)) → MayGoOn made ahead before moment flow place prefix →
       BeginsThere made ahead after more place prefix
 
 -- ---- a stream whose server is dialled, while others connect it
@@ -112,19 +146,17 @@ pub record HearsWaiting (before after : Stream) (event : Event) : Type 0 where
       IsInSequence made ahead after place (prefix ++ (record { moment = moment; value = event }) ∷ [])
 
 -- The flow of a state that stands where its server is dialled may be connected at this place: its side is that of the dial, these are
--- the side's bytes behind those that others have used, and nothing has closed it.
+-- the side's bytes that others have not used, and nothing has closed it.
 pub record MayReach (made : Terms) (ahead : ℕ) (state : Stream) (moment : ℕ) (rest : List ℕ) (from to : Standing) (prefix : List (Timed Event)) : Type 0 where
   pub at : At
   pub flow : Flow
   pub dialling : from.stage ≡ busy at flow connection
   pub there : IsInSequence made ahead state from prefix
-  pub side : ServerSide
-  pub stage : to.stage ≡ busy (record at { dials = at.dials + 1; parked = None }) (reached made.place flow) (response_head side all_sent)
-  pub server : side.server ≡ at.dials
+  pub stage : to.stage ≡ busy (record at { dials = at.dials + 1; parked = None }) (reached made.place flow) (response_head at.dials all_sent)
+  pub client : to.used.client ≡ from.used.client
+  pub come : (sight_over to prefix).server ≡ rest
+  pub unshut : (sight_over to prefix).shut ≡ false
   pub within : IsWithin to prefix
-  pub used : side.used ≤ length (bytes_of (Server at.dials) (drop to.opened prefix))
-  pub come : drop side.used (bytes_of (Server at.dials) (drop to.opened prefix)) ≡ rest
-  pub unshut : is_closed (Server at.dials) (drop to.opened prefix) ≡ false
   pub now : moment ≡ now_over to.since prefix
 
 -- Its request went to the server, and it looked once: it is where the chain is there, and gave what is owed there.

@@ -1,83 +1,212 @@
--- What a flow gives, and where it is then, by what its readers have come to.
-use Rattle.std.specs.Prelude.{ℕ, Bool, true, false, List, [], ◌∷◌, Option, Some, None}
+-- One look: what is given, and where the flow is then, by what the readers have come to.
+use Rattle.std.specs.Prelude.{◌≡◌, ◌≤◌, ℕ, Bool, true, false, if◌then◌else◌, List, [], ◌∷◌, ◌++◌, length, drop, Option, Some, None, ⊤}
 use Rattle.px_message.specs.declared.fault.Fault.TheVariants.{BadResponse}
 use Rattle.px_message.specs.declared.flow.Flow.{Flow}
 use Rattle.px_message.specs.declared.response.Response.{Response}
 use Rattle.px_event.specs.declared.ask.Hook.TheVariants.{RequestBody, ResponseHead, ResponseBody}
 use Rattle.px_event.specs.declared.command.Command.{Command}
+use Rattle.px_event.specs.declared.command.Command.TheVariants as commands
+use Rattle.px_event.specs.Chain.{found, found_with}
+use Rattle.px_read.specs.Items.{Item, missing, part, complete, bad_head, bad_body, request_item}
+use Rattle.px_read.specs.Laws.{head_in}
+use Rattle.px_read.specs.Reader.{request, State, to_come, Reads, IsNext, HasStopped}
+use Rattle.px_read.specs.declared.head.RequestHead.{RequestHead as ReadRequest}
 use Rattle.px_read.specs.declared.head.ResponseHead.{ResponseHead as ReadResponse}
+use Rattle.px_read.specs.declared.part.Part.{Part}
+use Rattle.px_exchange.specs.declared.asked.Judged.{Judged}
+use Rattle.px_exchange.specs.declared.asked.Judged.TheVariants.{Refused, Accepted, Connects}
+use Rattle.px_exchange.specs.declared.body.Progress.{Progress}
+use Rattle.px_exchange.specs.declared.body.Progress.TheVariants as progress
 use Rattle.px_exchange.specs.declared.ending.Used.{Used}
-use Rattle.px_exchange.specs.declared.ending.Used.TheVariants.{ByServer}
-use Rattle.px_stream.specs.declared.link.Link.{Link as KeptLink}
+use Rattle.px_exchange.specs.declared.terms.Terms.{Terms}
+use Rattle.px_exchange.specs.Bodies.{HasRead, IsReading}
+use Rattle.px_exchange.specs.Endings.{closed_message, ends_by_fault, ends_early, shut_server, without_response}
+use Rattle.px_exchange.specs.Finds.{is_relayed, look_head, or_leaves}
+use Rattle.px_exchange.specs.Flows.{ask_of, response_of, with_answer, with_body, with_end, with_returned, with_start}
+use Rattle.px_exchange.specs.Places.{dialled_for}
+use Rattle.px_exchange.specs.Requests.{expects, flow_of, is_http11, judged}
+use Rattle.px_chain.specs.Chain.{Connect, behind, connect_in, look, so_far}
+use Rattle.px_chain.specs.Sights.{Sight}
+use Rattle.px_chain.specs.Stages.{At, Stage}
+use Rattle.px_stream.specs.declared.link.Link.{Link}
 use Rattle.px_stream.specs.declared.phase.Asked.TheVariants as asked
 use Rattle.px_stream.specs.declared.phase.Phase.{Phase}
 use Rattle.px_stream.specs.declared.phase.Phase.TheVariants as phase
+use Rattle.px_stream.specs.declared.phase.Wanted.{Wanted}
 use Rattle.px_stream.specs.declared.phase.Wanted.TheVariants as ready
 use Rattle.px_stream.specs.declared.reading.FinalHead.{FinalHead}
 use Rattle.px_stream.specs.declared.reading.FinalHead.TheVariants as answer
-use Rattle.px_exchange.specs.declared.body.Progress.{Progress}
-use Rattle.px_exchange.specs.declared.body.Progress.TheVariants as progress
-use Rattle.px_exchange.specs.Flows.{ask_of, response_of, with_answer, with_body, with_returned, with_start}
-use Rattle.px_exchange.specs.Finds.{is_relayed}
-use Rattle.px_exchange.specs.Endings.{closed_message, ends_by_fault, ends_early, without_response}
-use Rattle.px_stream.specs.Phases.{is_over, unless_left}
+use Rattle.px_stream.specs.Responses.{GaveOne, IsKept, ReadsAnswer}
+use Rattle.px_stream.specs.Stands.{IsOpen, PhaseAt, StaysOpen, marks_at}
 
--- what is owed where the client leaves, if it has
+-- nothing more comes
+abbrev pub is_over : Phase
+is_over = phase.Ready ready.Over
+
+-- it waits, unless the client has closed; then this is owed
+abbrev pub unless_left : Bool → Wanted → Phase
+unless_left true looks = is_over
+unless_left false looks = phase.Ready looks
+
 abbrev pub where_left : Bool → List Command → List Command
 where_left true owed = owed
 where_left false owed = []
 
--- ---- the request's body
+-- ---- a request's head
 
--- it is whole: its hook is asked, unless a response is given already
+abbrev pub judged_phase : Terms → ℕ → ReadRequest → Judged → ℕ → Phase
+judged_phase terms index head (Refused fault) moment = is_over
+judged_phase terms index head (Accepted message) moment = phase.Asked (asked.Idle (flow_of terms index message moment) (expects head))
+judged_phase terms index head (Connects address) moment = phase.Ready (ready.Connects address)
+
+abbrev pub head_phase : Terms → ℕ → Item ReadRequest → ℕ → Bool → Phase
+head_phase terms index missing moment closed = unless_left closed ready.Idle
+head_phase terms index (part head body) moment closed = judged_phase terms index head (judged terms.place head) moment
+head_phase terms index (complete head body trailers used) moment closed = judged_phase terms index head (judged terms.place head) moment
+head_phase terms index (bad_head fault) moment closed = is_over
+head_phase terms index (bad_body fault head body) moment closed = judged_phase terms index head (judged terms.place head) moment
+
+-- a reader gave one part more
+pub record GaveNext (old new : State) : Type 0 where
+  pub got : Part
+  pub next : IsNext got (to_come old)
+  pub gives : GaveOne got old new
+  pub stopped : HasStopped got new
+
+-- Behind the head of a CONNECT its end was read too.
+abbrev pub BehindJudged : Judged → State → State → Type 0
+BehindJudged (Connects address) old new = GaveNext old new
+BehindJudged made old new = new ≡ old
+
+-- Of these bytes the head was read, if one is there; behind a CONNECT the reader keeps what follows.
+abbrev pub HeadRead : Option Connect → Item ReadRequest → List ℕ → State → Type 0
+HeadRead None item fed new = Reads request (marks_at (head_in item)) fed false new
+HeadRead (Some connects) item fed new = (new.rest ≡ drop connects.used fed) × (new.closed ≡ false) × (connects.used ≤ length fed)
+
+pub record HeadFound (terms : Terms) (index : ℕ) (old new : State) (moment : ℕ) (used : Used) (closed : Bool) (out longer : List Command) (next : Phase) : Type 0 where
+  pub gives : (fed : List ℕ) → Reads request [] fed false old →
+      longer ≡ out ++ found (or_leaves closed (shut_server used) (look_head terms index (request_item fed) moment used closed))
+  pub phase : (fed : List ℕ) → Reads request [] fed false old → next ≡ head_phase terms index (request_item fed) moment closed
+  pub reads : (fed : List ℕ) → Reads request [] fed false old → HeadRead (connect_in terms.place (request_item fed)) (request_item fed) fed new
+
+-- ---- a request's body: where it is whole its hook is asked, unless a response is given already
+
 abbrev pub whole_gives : Flow → Option Response → ℕ → List Command
 whole_gives flow None moment = ask_of flow RequestBody ∷ []
 whole_gives flow (Some given) moment = ask_of (with_start (record flow { response = Some given }) moment) ResponseHead ∷ []
 
 abbrev pub whole_phase : Flow → Option Response → ℕ → Phase
-whole_phase flow None moment = phase.Asked (asked.Body flow)
+whole_phase flow None moment = phase.Asked (asked.RequestBody flow)
 whole_phase flow (Some given) moment = phase.Asked (asked.GivenHead (with_start (record flow { response = Some given }) moment))
 
 abbrev pub body_gives : Flow → Option Response → Progress → List ℕ → ℕ → Used → Bool → List Command
-body_gives flow given (progress.Whole trailers) content moment parked closed = whole_gives (with_body flow content trailers moment) given moment
-body_gives flow given (progress.Bad fault) content moment parked closed = ends_by_fault flow fault moment parked closed
-body_gives flow given progress.Missing content moment parked closed = where_left closed (ends_early flow closed_message moment parked true)
+body_gives flow given (progress.Whole trailers) content moment used closed = whole_gives (with_body flow content trailers moment) given moment
+body_gives flow given (progress.Bad fault) content moment used closed = ends_by_fault flow fault moment used closed
+body_gives flow given progress.Missing content moment used closed = where_left closed (ends_early flow closed_message moment used true)
 
 abbrev pub body_phase : Flow → Option Response → Progress → List ℕ → ℕ → Bool → Phase
 body_phase flow given (progress.Whole trailers) content moment closed = whole_phase (with_body flow content trailers moment) given moment
 body_phase flow given (progress.Bad fault) content moment closed = is_over
-body_phase flow given progress.Missing content moment closed = unless_left closed (ready.Receiving flow given content)
+body_phase flow given progress.Missing content moment closed = unless_left closed (ready.RequestBody flow given content)
+
+pub record BodyFound (flow : Flow) (given : Option Response) (content : List ℕ) (old new : State) (moment : ℕ) (used : Used) (closed : Bool) (out longer : List Command) (next : Phase) : Type 0 where
+  pub got : Progress
+  pub body : List ℕ
+  pub read : HasRead got old content new body
+  pub gives : longer ≡ out ++ body_gives flow given got body moment used closed
+  pub phase : next ≡ body_phase flow given got body moment closed
 
 -- ---- the head of the final response
 
-abbrev pub relays : Bool → Flow → KeptLink → ReadResponse → ℕ → Bool → List Command
-relays true flow link head moment closed = ask_of (with_answer flow (response_of head) moment) ResponseHead ∷ []
-relays false flow link head moment closed = ends_by_fault flow BadResponse moment (ByServer link.server link.closed) closed
+abbrev pub relays : Bool → Flow → ReadResponse → ℕ → Used → Bool → List Command
+relays true flow head moment used closed = ask_of (with_answer flow (response_of head) moment) ResponseHead ∷ []
+relays false flow head moment used closed = ends_by_fault flow BadResponse moment used closed
 
-abbrev pub relayed_phase : Bool → Flow → KeptLink → ReadResponse → ℕ → Phase
-relayed_phase true flow link head moment = phase.Asked (asked.Answer (with_answer flow (response_of head) moment) link)
-relayed_phase false flow link head moment = is_over
+abbrev pub relayed_phase : Bool → Flow → ℕ → ReadResponse → ℕ → Phase
+relayed_phase true flow server head moment = phase.Asked (asked.ResponseHead (with_answer flow (response_of head) moment) server)
+relayed_phase false flow server head moment = is_over
 
-abbrev pub answer_gives : Flow → KeptLink → FinalHead → ℕ → Bool → List Command
-answer_gives flow link (answer.Head head) moment closed = relays (is_relayed head.code) flow link head moment closed
-answer_gives flow link (answer.Bad fault) moment closed = ends_by_fault flow fault moment (ByServer link.server link.closed) closed
-answer_gives flow link answer.Missing moment closed =
-    where_left closed (ends_early flow closed_message moment (ByServer link.server link.closed) true)
+abbrev pub answer_gives : Flow → FinalHead → ℕ → Used → Bool → List Command
+answer_gives flow (answer.Head head) moment used closed = relays (is_relayed head.code) flow head moment used closed
+answer_gives flow (answer.Bad fault) moment used closed = ends_by_fault flow fault moment used closed
+answer_gives flow answer.Missing moment used closed = where_left closed (ends_early flow closed_message moment used true)
 
-abbrev pub answer_phase : Flow → KeptLink → FinalHead → ℕ → Bool → Phase
-answer_phase flow link (answer.Head head) moment closed = relayed_phase (is_relayed head.code) flow link head moment
-answer_phase flow link (answer.Bad fault) moment closed = is_over
-answer_phase flow link answer.Missing moment closed = unless_left closed (ready.Answering flow link)
+abbrev pub answer_phase : Flow → ℕ → FinalHead → ℕ → Bool → Phase
+answer_phase flow server (answer.Head head) moment closed = relayed_phase (is_relayed head.code) flow server head moment
+answer_phase flow server (answer.Bad fault) moment closed = is_over
+answer_phase flow server answer.Missing moment closed = unless_left closed (ready.ResponseHead flow server)
+
+pub record AnswerFound (flow : Flow) (server : ℕ) (old new : Option Link) (moment : ℕ) (used : Used) (closed : Bool) (out longer : List Command) (next : Phase) : Type 0 where
+  pub got : FinalHead
+  pub between : List Command
+  pub read : StaysOpen (λ link later. ReadsAnswer got (is_http11 flow.request.version) link out later between) old new
+  pub gives : longer ≡ between ++ answer_gives flow got moment used closed
+  pub phase : next ≡ answer_phase flow server got moment closed
 
 -- ---- the response's body
 
-abbrev pub returned_gives : Flow → KeptLink → Progress → List ℕ → ℕ → Bool → List Command
-returned_gives flow link (progress.Whole trailers) content moment closed = ask_of (with_returned flow content trailers moment) ResponseBody ∷ []
-returned_gives flow link (progress.Bad fault) content moment closed = ends_by_fault flow fault moment (ByServer link.server link.closed) closed
-returned_gives flow link progress.Missing content moment closed =
-    where_left closed (ends_early (without_response flow) closed_message moment (ByServer link.server link.closed) true)
+abbrev pub returned_gives : Flow → Progress → List ℕ → ℕ → Used → Bool → List Command
+returned_gives flow (progress.Whole trailers) content moment used closed = ask_of (with_returned flow content trailers moment) ResponseBody ∷ []
+returned_gives flow (progress.Bad fault) content moment used closed = ends_by_fault flow fault moment used closed
+returned_gives flow progress.Missing content moment used closed = where_left closed (ends_early (without_response flow) closed_message moment used true)
 
-abbrev pub returned_phase : Flow → KeptLink → Progress → List ℕ → ℕ → Bool → Phase
-returned_phase flow link (progress.Whole trailers) content moment closed = phase.Asked (asked.Returned (with_returned flow content trailers moment) link)
-returned_phase flow link (progress.Bad fault) content moment closed = is_over
-returned_phase flow link progress.Missing content moment closed = unless_left closed (ready.Returning flow link content)
+abbrev pub returned_phase : Flow → ℕ → Progress → List ℕ → ℕ → Bool → Phase
+returned_phase flow server (progress.Whole trailers) content moment closed = phase.Asked (asked.ResponseBody (with_returned flow content trailers moment) server)
+returned_phase flow server (progress.Bad fault) content moment closed = is_over
+returned_phase flow server progress.Missing content moment closed = unless_left closed (ready.ResponseBody flow server content)
+
+pub record ReadsMore (got : Progress) (content body : List ℕ) (old new : Link) : Type 0 where
+  pub same : new ≡ record old { responses = new.responses }
+  pub read : HasRead got old.responses content new.responses body
+
+pub record ReturnFound (flow : Flow) (server : ℕ) (content : List ℕ) (old new : Option Link) (moment : ℕ) (used : Used) (closed : Bool) (out longer : List Command) (next : Phase) : Type 0 where
+  pub got : Progress
+  pub body : List ℕ
+  pub read : StaysOpen (ReadsMore got content body) old new
+  pub gives : longer ≡ out ++ returned_gives flow got body moment used closed
+  pub phase : next ≡ returned_phase flow server got body moment closed
+
+-- ---- whatever is looked for
+
+-- something that is given at once
+pub record FoundAtOnce (old new : State) (given : List Command) (out longer : List Command) (there next : Phase) : Type 0 where
+  pub same : new ≡ old
+  pub gives : longer ≡ out ++ given
+  pub phase : next ≡ there
+
+-- where nothing more is looked for
+abbrev pub Rests : State → State → List Command → List Command → Wanted → Phase → Type 0
+Rests old new out longer looked next = FoundAtOnce old new [] out longer (phase.Ready looked) next
+
+-- On terms, at this place, beside the open side, at this moment, and whether the client has closed; what the client's reader, the side and the commands were
+-- and are.
+abbrev pub LookFound : Terms → At → Used → ℕ → Bool → Wanted → State → State → Option Link → Option Link → List Command → List Command → Phase → Type 0
+LookFound terms at used moment closed ready.Idle old new side later out longer next =
+    (later ≡ side) × HeadFound terms at.flow old new moment used closed out longer next
+LookFound terms at used moment closed (ready.RequestBody flow given body) old new side later out longer next =
+    (later ≡ side) × BodyFound flow given body old new moment used closed out longer next
+LookFound terms at used moment closed (ready.Connection flow) old new side later out longer next = (later ≡ side)
+    × FoundAtOnce old new (commands.Dial at.dials (dialled_for terms.place flow.request) None ∷ shut_server used) out longer (phase.Asked (asked.Connection flow at.dials)) next
+LookFound terms at used moment closed (ready.ResponseHead flow server) old new side later out longer next =
+    (new ≡ old) × AnswerFound flow server side later moment used closed out longer next
+LookFound terms at used moment closed (ready.ResponseBody flow server body) old new side later out longer next =
+    (new ≡ old) × ReturnFound flow server body side later moment used closed out longer next
+LookFound terms at used moment closed (ready.GivenHead flow) old new side later out longer next =
+    (later ≡ side) × FoundAtOnce old new (ask_of (with_start flow moment) ResponseHead ∷ []) out longer (phase.Asked (asked.GivenHead (with_start flow moment))) next
+LookFound terms at used moment closed (ready.GivenBody flow) old new side later out longer next =
+    (later ≡ side) × FoundAtOnce old new (ask_of (with_end flow moment) ResponseBody ∷ []) out longer (phase.Asked (asked.GivenBody (with_end flow moment))) next
+LookFound terms at used moment closed looked old new side later out longer next = (later ≡ side) × Rests old new out longer looked next
+
+-- what the readers have to be at
+abbrev pub MayLook : Wanted → State → Option Link → Type 0
+MayLook (ready.RequestBody flow given body) requests side = IsReading requests
+MayLook (ready.ResponseHead flow server) requests side = IsOpen IsKept side
+MayLook (ready.ResponseBody flow server body) requests side = IsOpen (λ link. IsReading link.responses) side
+MayLook looked requests side = ⊤
+
+-- What was given before and what was added are what the stage owes in the sight, and the phase is that of the stage.
+pub record LookedAt (terms : Terms) (at : At) (stage : Stage) (seen : Sight) (requests : State) (side : Option Link) (is_now : Phase) (before out longer : List Command) : Type 0 where
+  pub more : List Command
+  pub grown : longer ≡ out ++ more
+  pub owes : before ++ more ≡ so_far stage seen ++ found_with (behind stage seen) (look terms stage seen)
+  pub phase : PhaseAt (look terms stage seen) terms at requests side is_now stage seen

@@ -1,9 +1,7 @@
--- Where a flow is: what its fields are at a stage and in a sight.
+-- Where a stream is: what its fields are at a stage and in a sight.
 use Rattle.std.specs.Prelude.{◌≡◌, ◌≤◌, ◌+◌, ◌++◌, ℕ, Bool, true, false, List, [], ◌∷◌, length, drop, Option, Some, None, ⊤}
-use Rattle.px_message.specs.declared.address.Address.{Address}
 use Rattle.px_message.specs.declared.flow.Flow.{Flow}
 use Rattle.px_message.specs.declared.request.Request.{Request}
-use Rattle.px_message.specs.declared.response.Response.{Response}
 use Rattle.px_event.specs.declared.ask.Ask.{Ask}
 use Rattle.px_event.specs.declared.ask.Ask.TheVariants as asking
 use Rattle.px_event.specs.declared.ask.Hook.TheVariants.{RequestHead, RequestBody, ResponseHead, ResponseBody}
@@ -11,14 +9,25 @@ use Rattle.px_event.specs.declared.command.Command.{Command}
 use Rattle.px_event.specs.declared.event.Event.{Event}
 use Rattle.px_event.specs.Chain.{Timed, Look, NotYet, Asks, Ends}
 use Rattle.px_read.specs.Heads.{is_interim}
-use Rattle.px_read.specs.Items.{Body, complete, answer_list}
+use Rattle.px_read.specs.Items.{Item, part, complete, bad_body, answer_list}
 use Rattle.px_read.specs.Laws.{head_in}
 use Rattle.px_read.specs.Marks.{Mark, asks, answers}
 use Rattle.px_read.specs.Reader.{State, request, response, before_all, Reads}
 use Rattle.px_read.specs.declared.head.RequestHead.{RequestHead as ReadRequest}
 use Rattle.px_read.specs.declared.head.ResponseHead.{ResponseHead as ReadResponse}
+use Rattle.px_exchange.specs.declared.asked.Judged.{Judged}
 use Rattle.px_exchange.specs.declared.asked.Judged.TheVariants.{Accepted}
-use Rattle.px_stream.specs.declared.link.Link.{Link as KeptLink}
+use Rattle.px_exchange.specs.declared.ending.Used.{Used}
+use Rattle.px_exchange.specs.declared.ending.Used.TheVariants.{NoServer, ByServer}
+use Rattle.px_exchange.specs.declared.terms.Terms.{Terms}
+use Rattle.px_exchange.specs.Bodies.{content_of}
+use Rattle.px_exchange.specs.Flows.{hook_of, response_of, with_answer, with_body, with_end, with_returned, with_start}
+use Rattle.px_exchange.specs.Requests.{is_head, expects, flow_of, judged}
+use Rattle.px_exchange.specs.Texts.{interim_commands}
+use Rattle.px_chain.specs.Chain.{Connect, connect_in, look, so_far}
+use Rattle.px_chain.specs.Sights.{Sight, Standing, IsWithin, answers_in, client_left, request_in, server_left, sight_over}
+use Rattle.px_chain.specs.Stages.{At, Doing, Parked, Stage, all_sent, busy, connection, given_body, given_head, idle, next, over, place_of, request_body, response_body, response_head, upgraded}
+use Rattle.px_stream.specs.declared.link.Link.{Link}
 use Rattle.px_stream.specs.declared.phase.Asked.{Asked}
 use Rattle.px_stream.specs.declared.phase.Asked.TheVariants as asked
 use Rattle.px_stream.specs.declared.phase.Phase.{Phase}
@@ -26,31 +35,98 @@ use Rattle.px_stream.specs.declared.phase.Phase.TheVariants as phase
 use Rattle.px_stream.specs.declared.phase.Wanted.{Wanted}
 use Rattle.px_stream.specs.declared.phase.Wanted.TheVariants as ready
 use Rattle.px_stream.specs.declared.stream.Stream.{Stream}
-use Rattle.px_stream.specs.declared.numbers.Numbers.{Numbers}
-use Rattle.px_exchange.specs.declared.ending.Used.{Used}
-use Rattle.px_exchange.specs.declared.ending.Used.TheVariants.{NoServer, ByServer}
-use Rattle.px_exchange.specs.declared.place.Place.{Place}
-use Rattle.px_exchange.specs.declared.place.Place.TheVariants as places
-use Rattle.px_exchange.specs.declared.terms.Terms.{Terms}
-use Rattle.px_exchange.specs.Finds.{is_relayed}
-use Rattle.px_exchange.specs.Bodies.{content_of}
-use Rattle.px_exchange.specs.Flows.{hook_of, response_of, with_answer, with_body, with_end, with_returned, with_start}
-use Rattle.px_chain.specs.Chain.{connect_in, look, parked_of, so_far, Connect}
-use Rattle.px_chain.specs.Sights.{Sight, Standing, IsWithin, answers_in, request_in, sight_over}
-use Rattle.px_exchange.specs.Requests.{is_head, expects, flow_of, judged}
-use Rattle.px_chain.specs.Stages.{At, Doing, Parked, ServerSide, Stage, busy, connection, given_body, given_head, idle, next, over, request_body, response_body, response_head, upgraded}
-use Rattle.px_exchange.specs.Texts.{interim_commands}
+
+-- ---- the stage that is looked at
+
+-- Where something is looked for, that is a stage. Behind a CONNECT nothing is: flows in sequence are never at `next`.
+abbrev pub stage_of : At → Wanted → Stage
+stage_of at ready.Idle = idle at
+stage_of at (ready.RequestBody flow given body) = busy at flow (request_body given)
+stage_of at (ready.Connection flow) = busy at flow connection
+stage_of at (ready.ResponseHead flow server) = busy at flow (response_head server all_sent)
+stage_of at (ready.ResponseBody flow server body) = busy at flow (response_body server all_sent)
+stage_of at (ready.Upgraded flow server) = busy at flow (upgraded server)
+stage_of at (ready.GivenHead flow) = busy at flow given_head
+stage_of at (ready.GivenBody flow) = busy at flow given_body
+stage_of at (ready.Connects address) = next at
+stage_of at ready.Over = over
+
+-- the content that was read of a body
+abbrev pub content_in : Wanted → List ℕ
+content_in (ready.RequestBody flow given body) = body
+content_in (ready.ResponseBody flow server body) = body
+content_in looked = []
+
+-- ---- what is asked about: the flow with what was read for it
+
+abbrev pub judged_asked : Terms → At → ReadRequest → Judged → ℕ → Option Asked
+judged_asked terms at head (Accepted message) now = Some (asked.Idle (flow_of terms at.flow message now) (expects head))
+judged_asked terms at head made now = None
+
+abbrev pub head_asked : Terms → At → Option ReadRequest → ℕ → Option Asked
+head_asked terms at None now = None
+head_asked terms at (Some head) now = judged_asked terms at head (judged terms.place head) now
+
+abbrev pub body_asked : Flow → Item ReadRequest → ℕ → Option Asked
+body_asked flow (complete head body trailers used) now = Some (asked.RequestBody (with_body flow body.content trailers now))
+body_asked flow item now = None
+
+abbrev pub answer_asked : Flow → ℕ → Option ReadResponse → ℕ → Option Asked
+answer_asked flow server None now = None
+answer_asked flow server (Some head) now = Some (asked.ResponseHead (with_answer flow (response_of head) now) server)
+
+abbrev pub returned_asked : Flow → ℕ → Item ReadResponse → ℕ → Option Asked
+returned_asked flow server (complete head body trailers size) now = Some (asked.ResponseBody (with_returned flow body.content trailers now) server)
+returned_asked flow server item now = None
+
+abbrev pub asked_for : At → Flow → Doing → Sight → Option Asked
+asked_for at flow (request_body given) seen = body_asked flow (request_in seen) seen.now
+asked_for at flow connection seen = Some (asked.Connection flow at.dials)
+asked_for at flow (response_head server sent) seen = answer_asked flow server (head_in (answers_in flow.request seen).final) seen.now
+asked_for at flow (response_body server sent) seen = returned_asked flow server (answers_in flow.request seen).final seen.now
+asked_for at flow (upgraded server) seen = None
+asked_for at flow given_head seen = Some (asked.GivenHead (with_start flow seen.now))
+asked_for at flow given_body seen = Some (asked.GivenBody (with_end flow seen.now))
+
+abbrev pub asked_in : Terms → Stage → Sight → Option Asked
+asked_in terms (idle at) seen = head_asked terms at (head_in (request_in seen)) seen.now
+asked_in terms (busy at flow doing) seen = asked_for at flow doing seen
+asked_in terms stage seen = None
 
 -- ---- the client's reader
 
--- it gave these marks of the request behind those of the flows before
-abbrev pub ReadsRequest : List Mark → At → Sight → State → Type 0
-ReadsRequest told at seen requests = Reads request told (drop at.used seen.client) false requests
+-- the mark of a head
+abbrev pub marks_at : Option ReadRequest → List Mark
+marks_at None = []
+marks_at (Some head) = asks head ∷ []
 
--- the request is whole, and what it keeps is what stands behind so many bytes
-pub record KeepsBehind (used : ℕ) (seen : Sight) (requests : State) : Type 0 where
-  pub rest : requests.rest ≡ drop used seen.client
+-- behind the head it gave these marks, whose content is this
+pub record ReadsBody (seen : Sight) (content : List ℕ) (requests : State) : Type 0 where
+  pub head : ReadRequest
+  pub marks : List Mark
+  pub is_content : content ≡ content_of marks
+  pub reads : Reads request (asks head ∷ marks) seen.client false requests
+
+-- these bytes wait in it
+pub record Keeps (bytes : List ℕ) (requests : State) : Type 0 where
+  pub rest : requests.rest ≡ bytes
   pub open_still : requests.closed ≡ false
+
+-- where something is looked for
+abbrev pub HasRequestFor : Doing → Sight → List ℕ → State → Type 0
+HasRequestFor (request_body given) seen content requests = ReadsBody seen content requests
+HasRequestFor doing seen content requests = Keeps seen.client requests
+
+abbrev pub HasRequest : Stage → Sight → List ℕ → State → Type 0
+HasRequest (idle at) seen content requests = Reads request [] seen.client false requests
+HasRequest (busy at flow doing) seen content requests = HasRequestFor doing seen content requests
+HasRequest (next at) seen content requests = ⊥
+HasRequest over seen content requests = ⊤
+
+-- and where an answer is awaited
+abbrev pub AskedRequest : Stage → Sight → State → Type 0
+AskedRequest (idle at) seen requests = Reads request (marks_at (head_in (request_in seen))) seen.client false requests
+AskedRequest stage seen requests = Keeps (client_left stage seen) requests
 
 -- ---- the server's side
 
@@ -65,264 +141,155 @@ pub record Passes (asked_head : Bool) (bytes fed : List ℕ) (sent : List ReadRe
   pub final : (closed : Bool) (more : List ℕ) → (answer_list asked_head closed (bytes ++ more)).final ≡ (answer_list asked_head closed (fed ++ more)).final
 
 -- Its reader gave these marks of the response behind those that were sent on, of the bytes of the server of this number.
-pub record Keeps (asked_head : Bool) (number : ℕ) (bytes : List ℕ) (shut : Bool) (sent : List ReadResponse) (told : List Mark) (kept : KeptLink) : Type 0 where
-  pub server : kept.server ≡ number
-  pub is_asked : kept.asked_head ≡ asked_head
-  pub closed : kept.closed ≡ shut
+pub record ReadsLink (asked_head : Bool) (number : ℕ) (bytes : List ℕ) (shut : Bool) (sent : List ReadResponse) (told : List Mark) (link : Link) : Type 0 where
+  pub server : link.server ≡ number
+  pub is_asked : link.asked_head ≡ asked_head
+  pub closed : link.closed ≡ shut
   pub fed : List ℕ
   pub passes : Passes asked_head bytes fed sent
-  pub reads : Reads (response asked_head) told fed shut kept.responses
+  pub reads : Reads (response asked_head) told fed shut link.responses
 
--- the same of a side in a sight: bytes that flows before have used are not its bytes
-pub record IsLink (message : Request) (side : ServerSide) (seen : Sight) (sent : List ReadResponse) (told : List Mark) (kept : KeptLink) : Type 0 where
-  pub within : side.used ≤ length seen.server
-  pub keeps : Keeps (is_head message.method) side.server (drop side.used seen.server) seen.shut sent told kept
+abbrev pub IsLink : Request → ℕ → Sight → List ReadResponse → List Mark → Link → Type 0
+IsLink message server seen sent told link = ReadsLink (is_head message.method) server seen.server seen.shut sent told link
 
--- ---- while no answer is awaited
-
-pub record IsIdle (at : At) (seen : Sight) (requests : State) (found : Wanted) : Type 0 where
-  pub phase : found ≡ ready.Idle
-  pub reads : ReadsRequest [] at seen requests
-
-pub record IsReceiving (at : At) (seen : Sight) (requests : State) (flow : Flow) (given : Option Response) (found : Wanted) : Type 0 where
-  pub head : ReadRequest
-  pub marks : List Mark
-  pub phase : found ≡ ready.Receiving flow given (content_of marks)
-  pub reads : ReadsRequest (asks head ∷ marks) at seen requests
-
-pub record IsAnswering (at : At) (seen : Sight) (requests : State) (flow : Flow) (side : ServerSide) (sent : List ReadResponse) (found : Wanted) : Type 0 where
-  pub kept : KeptLink
-  pub phase : found ≡ ready.Answering flow kept
-  pub is_link : IsLink flow.request side seen sent [] kept
-  pub keeps : KeepsBehind at.used seen requests
-
-pub record IsReturning (at : At) (seen : Sight) (requests : State) (flow : Flow) (side : ServerSide) (sent : List ReadResponse) (found : Wanted) : Type 0 where
-  pub kept : KeptLink
+-- behind the final head it gave these marks, whose content is this
+pub record ReadsReturn (message : Request) (server : ℕ) (seen : Sight) (content : List ℕ) (link : Link) : Type 0 where
+  pub sent : List ReadResponse
   pub head : ReadResponse
   pub marks : List Mark
-  pub phase : found ≡ ready.Returning flow kept (content_of marks)
+  pub is_content : content ≡ content_of marks
   pub final : is_interim head ≡ false
-  pub is_link : IsLink flow.request side seen sent (answers head ∷ marks) kept
-  pub keeps : KeepsBehind at.used seen requests
+  pub is_link : IsLink message server seen sent (answers head ∷ marks) link
 
-pub record IsHeld (at : At) (seen : Sight) (requests : State) (looks : Wanted) (found : Wanted) : Type 0 where
-  pub phase : found ≡ looks
-  pub keeps : KeepsBehind at.used seen requests
-
--- what stands behind the response on the server's side is kept, and the flow
-pub record IsUpgraded (at : At) (seen : Sight) (requests : State) (flow : Flow) (side : ServerSide) (found : Wanted) : Type 0 where
-  pub kept : KeptLink
-  pub phase : found ≡ ready.Upgraded flow kept
-  pub server : kept.server ≡ side.server
-  pub closed : kept.closed ≡ seen.shut
-  pub rest : kept.responses.rest ≡ drop side.used seen.server
-  pub within : side.used ≤ length seen.server
-  pub keeps : KeepsBehind at.used seen requests
-
--- a CONNECT was read, and what stands behind it is kept
-pub record IsConnecting (at : At) (seen : Sight) (requests : State) (connects : Connect) (found : Wanted) : Type 0 where
-  pub phase : found ≡ ready.Connects connects.address
-  pub keeps : KeepsBehind (at.used + connects.used) seen requests
-  pub within : at.used + connects.used ≤ length seen.client
-
--- what it looks for, where it sent these interim responses on
-abbrev pub IsReadyFor : At → Flow → Doing → State → Wanted → Sight → List ReadResponse → Type 0
-IsReadyFor at flow (request_body given) requests found seen sent = IsReceiving at seen requests flow given found
-IsReadyFor at flow connection requests found seen sent = IsHeld at seen requests (ready.Dialling flow) found
-IsReadyFor at flow (response_head side how) requests found seen sent = IsAnswering at seen requests flow side sent found
-IsReadyFor at flow (response_body side how) requests found seen sent = IsReturning at seen requests flow side sent found
-IsReadyFor at flow (upgraded side) requests found seen sent = IsUpgraded at seen requests flow side found
-IsReadyFor at flow given_head requests found seen sent = IsHeld at seen requests (ready.GivenHead flow) found
-IsReadyFor at flow given_body requests found seen sent = IsHeld at seen requests (ready.GivenBody flow) found
-
-abbrev pub IsReady : State → Wanted → Stage → Sight → List ReadResponse → Type 0
-IsReady requests found (idle at) seen sent = IsIdle at seen requests found
-IsReady requests found (busy at flow doing) seen sent = IsReadyFor at flow doing requests found seen sent
-IsReady requests found (next at) seen sent = IsHeld at seen requests ready.Finished found
-IsReady requests found over seen sent = found ≡ ready.Over
-
--- the interim responses that a stage has sent on
-abbrev pub sent_for : Flow → Doing → List ReadResponse → List Command
-sent_for flow (response_head side how) sent = interim_commands flow.request sent
-sent_for flow _ sent = []
-
-abbrev pub sent_on : Stage → List ReadResponse → List Command
-sent_on (busy at flow doing) sent = sent_for flow doing sent
-sent_on _ sent = []
-
--- ---- while an answer is awaited
-
-pub record IsHeadAsked (terms : Terms) (at : At) (seen : Sight) (requests : State) (found : Asked) : Type 0 where
-  pub head : ReadRequest
-  pub message : Request
-  pub stands : head_in (request_in at seen) ≡ Some head
-  pub accepts : judged terms.place head ≡ Accepted message
-  pub phase : found ≡ asked.Head (flow_of terms at.flow message (seen.now)) (expects head)
-  pub reads : ReadsRequest (asks head ∷ []) at seen requests
-
-pub record IsBodyAsked (at : At) (seen : Sight) (requests : State) (flow : Flow) (found : Asked) : Type 0 where
-  pub head : ReadRequest
-  pub body : Body
-  pub trailers : List (List ℕ × List ℕ)
-  pub used : ℕ
-  pub stands : request_in at seen ≡ complete head body trailers used
-  pub phase : found ≡ asked.Body (with_body flow body.content trailers (seen.now))
-  pub keeps : KeepsBehind (at.used + used) seen requests
-  pub within : at.used + used ≤ length (seen.client)
-
-pub record IsAnswerAsked (at : At) (seen : Sight) (requests : State) (flow : Flow) (side : ServerSide) (sent : List ReadResponse) (found : Asked) : Type 0 where
-  pub kept : KeptLink
+-- the final head was read
+pub record ReadsFinal (message : Request) (server : ℕ) (seen : Sight) (link : Link) : Type 0 where
+  pub sent : List ReadResponse
   pub head : ReadResponse
-  pub stands : head_in (answers_in flow.request side seen).final ≡ Some head
-  pub relayed : is_relayed head.code ≡ true
-  pub phase : found ≡ asked.Answer (with_answer flow (response_of head) (seen.now)) kept
+  pub stands : head_in (answers_in message seen).final ≡ Some head
   pub final : is_interim head ≡ false
-  pub is_link : IsLink flow.request side seen sent (answers head ∷ []) kept
-  pub keeps : KeepsBehind at.used seen requests
+  pub is_link : IsLink message server seen sent (answers head ∷ []) link
 
-pub record IsReturnedAsked (at : At) (seen : Sight) (requests : State) (flow : Flow) (side : ServerSide) (found : Asked) : Type 0 where
-  pub kept : KeptLink
-  pub head : ReadResponse
-  pub body : Body
-  pub trailers : List (List ℕ × List ℕ)
-  pub size : ℕ
-  pub stands : (answers_in flow.request side seen).final ≡ complete head body trailers size
-  pub phase : found ≡ asked.Returned (with_returned flow body.content trailers (seen.now)) kept
-  pub server : kept.server ≡ side.server
-  pub closed : kept.closed ≡ seen.shut
-  pub rest : kept.responses.rest ≡ drop ((answers_in flow.request side seen).used + size) (drop side.used seen.server)
-  pub within : side.used ≤ length seen.server
-  pub keeps : KeepsBehind at.used seen requests
+-- these bytes of the server of this number wait in it
+pub record LinkKeeps (number : ℕ) (bytes : List ℕ) (shut : Bool) (link : Link) : Type 0 where
+  pub server : link.server ≡ number
+  pub closed : link.closed ≡ shut
+  pub rest : link.responses.rest ≡ bytes
 
-pub record IsHeldAsked (at : At) (seen : Sight) (requests : State) (awaits : Asked) (found : Asked) : Type 0 where
-  pub phase : found ≡ awaits
-  pub keeps : KeepsBehind at.used seen requests
+-- the one side that is open is such
+abbrev pub IsOpen : (Link → Type 0) → Option Link → Type 0
+IsOpen holds None = ⊥
+IsOpen holds (Some link) = holds link
 
--- what was asked
-abbrev pub IsAskedFor : At → Flow → Doing → State → Asked → Sight → Type 0
-IsAskedFor at flow (request_body None) requests found seen = IsBodyAsked at seen requests flow found
-IsAskedFor at flow (request_body (Some given)) requests found seen = ⊥
-IsAskedFor at flow connection requests found seen = IsHeldAsked at seen requests (asked.Dial flow at.dials) found
-IsAskedFor at flow (response_head side how) requests found seen =
-    (sent : List ReadResponse) × IsAnswerAsked at seen requests flow side sent found
-IsAskedFor at flow (response_body side how) requests found seen = IsReturnedAsked at seen requests flow side found
-IsAskedFor at flow (upgraded side) requests found seen = ⊥
-IsAskedFor at flow given_head requests found seen = IsHeldAsked at seen requests (asked.GivenHead (with_start flow seen.now)) found
-IsAskedFor at flow given_body requests found seen = IsHeldAsked at seen requests (asked.GivenBody (with_end flow seen.now)) found
+-- it stays open, and these two are such
+abbrev pub StaysOpen : (Link → Link → Type 0) → Option Link → Option Link → Type 0
+StaysOpen holds (Some link) (Some later) = holds link later
+StaysOpen holds old new = ⊥
 
-abbrev pub IsAsked : Terms → State → Asked → Stage → Sight → Type 0
-IsAsked terms requests found (idle at) seen = IsHeadAsked terms at seen requests found
-IsAsked terms requests found (busy at flow doing) seen = IsAskedFor at flow doing requests found seen
-IsAsked terms requests found (next at) seen = ⊥
-IsAsked terms requests found over seen = ⊥
+-- the side of a server of which all is to be read, for the answer to a HEAD or not
+abbrev pub unread_link : ℕ → Bool → List ℕ → Bool → Link
+unread_link server asked_head bytes closed =
+    record { server = server; asked_head = asked_head; responses = before_all (response asked_head) bytes closed; closed = closed }
+
+-- the parked one: what was heard of it waits
+abbrev pub parked_link : Option Parked → Sight → Option Link
+parked_link None seen = None
+parked_link (Some parked) seen = Some (unread_link parked.server false seen.server seen.shut)
+
+-- where something is looked for, and these interim responses were sent on
+abbrev pub HasSideFor : At → Flow → Doing → Sight → List ReadResponse → List ℕ → Option Link → Type 0
+HasSideFor at flow (response_head server how) seen sent content side = IsOpen (IsLink flow.request server seen sent []) side
+HasSideFor at flow (response_body server how) seen sent content side = IsOpen (ReadsReturn flow.request server seen content) side
+HasSideFor at flow (upgraded server) seen sent content side = IsOpen (LinkKeeps server seen.server seen.shut) side
+HasSideFor at flow doing seen sent content side = side ≡ parked_link at.parked seen
+
+abbrev pub HasSide : Stage → Sight → List ReadResponse → List ℕ → Option Link → Type 0
+HasSide (idle at) seen sent content side = side ≡ parked_link at.parked seen
+HasSide (busy at flow doing) seen sent content side = HasSideFor at flow doing seen sent content side
+HasSide stage seen sent content side = ⊤
+
+-- and where an answer is awaited
+abbrev pub AskedSideFor : At → Flow → Doing → Sight → Option Link → Type 0
+AskedSideFor at flow (response_head server how) seen side = IsOpen (ReadsFinal flow.request server seen) side
+AskedSideFor at flow (response_body server how) seen side = IsOpen (LinkKeeps server (server_left (busy at flow (response_body server how)) seen) seen.shut) side
+AskedSideFor at flow doing seen side = side ≡ parked_link at.parked seen
+
+abbrev pub AskedSide : Stage → Sight → Option Link → Type 0
+AskedSide (idle at) seen side = side ≡ parked_link at.parked seen
+AskedSide (busy at flow doing) seen side = AskedSideFor at flow doing seen side
+AskedSide stage seen side = ⊤
+
+-- the server of the side, and whether it closed
+abbrev pub used_in : Option Link → Used
+used_in None = NoServer
+used_in (Some link) = ByServer link.server link.closed
 
 -- ---- all of a state
 
--- the numbers, whatever it looks for. The last number of a server is never reached where it would be dialled.
-pub record IsPlaced (at : At) (seen : Sight) (numbers : Numbers) (closed : Bool) : Type 0 where
-  pub index : numbers.flow ≡ at.flow
-  pub servers : at.dials ≤ 4294967295 → numbers.server ≡ at.dials
-  pub client : closed ≡ seen.closed
-  pub used : at.used ≤ length (seen.client)
+-- it looks for what the stage awaits, where these interim responses were sent on
+pub record IsReady (at : At) (requests : State) (side : Option Link) (looked : Wanted) (stage : Stage) (seen : Sight) (sent : List ReadResponse) : Type 0 where
+  pub is_stage : stage_of at looked ≡ stage
+  pub request : HasRequest stage seen (content_in looked) requests
+  pub has_side : HasSide stage seen sent (content_in looked) side
 
-abbrev pub HasPlace : Stage → Sight → Numbers → Bool → Type 0
-HasPlace (idle at) = IsPlaced at
-HasPlace (busy at flow doing) = IsPlaced at
-HasPlace (next at) = IsPlaced at
-HasPlace over = λ seen numbers closed. ⊤
+-- it awaits the answer to what the stage asks
+pub record IsAsked (terms : Terms) (requests : State) (side : Option Link) (found : Asked) (stage : Stage) (seen : Sight) : Type 0 where
+  pub asks : asked_in terms stage seen ≡ Some found
+  pub request : AskedRequest stage seen requests
+  pub has_side : AskedSide stage seen side
 
--- the moment is that of the sight, unless all has ended
-abbrev pub IsNow : Stage → Sight → ℕ → Type 0
-IsNow over seen moment = ⊤
-IsNow stage seen moment = moment ≡ seen.now
+-- the interim responses that a stage has sent on
+abbrev pub sent_for : Flow → Doing → List ReadResponse → List Command
+sent_for flow (response_head server how) sent = interim_commands flow.request sent
+sent_for flow doing sent = []
 
--- where the walk stopped at the end: the flow is finished, a tunnel or another protocol follows, or the conversation has ended
-abbrev pub IsLastAt : Option Connect → At → Sight → State → Wanted → Type 0
-IsLastAt None at seen requests found = found ≡ ready.Over
-IsLastAt (Some connects) at seen requests found = IsConnecting at seen requests connects found
+abbrev pub sent_on : Stage → List ReadResponse → List Command
+sent_on (busy at flow doing) sent = sent_for flow doing sent
+sent_on stage sent = []
 
-abbrev pub IsLastFor : At → Flow → Doing → Sight → State → Wanted → Type 0
-IsLastFor at flow (upgraded side) seen requests found = IsUpgraded at seen requests flow side found
-IsLastFor at flow doing seen requests found = found ≡ ready.Over
+-- At an end a tunnel or another protocol follows, or the conversation has ended. What stands behind on both sides is kept.
+pub record IsConnecting (connects : Connect) (seen : Sight) (requests : State) (last : Wanted) : Type 0 where
+  pub phase : last ≡ ready.Connects connects.address
+  pub keeps : Keeps (drop connects.used seen.client) requests
 
-abbrev pub IsLast : Terms → Stage → Sight → State → Wanted → Type 0
-IsLast terms (idle at) seen requests found = IsLastAt (connect_in terms.place (request_in at seen)) at seen requests found
-IsLast terms (busy at flow doing) seen requests found = IsLastFor at flow doing seen requests found
-IsLast terms (next at) seen requests found = IsHeld at seen requests ready.Finished found
-IsLast terms over seen requests found = found ≡ ready.Over
+pub record IsUpgraded (flow : Flow) (server : ℕ) (seen : Sight) (requests : State) (side : Option Link) (last : Wanted) : Type 0 where
+  pub phase : last ≡ ready.Upgraded flow server
+  pub keeps : Keeps seen.client requests
+  pub is_open : IsOpen (LinkKeeps server seen.server seen.shut) side
 
-abbrev pub PhaseAt : Look Command → Terms → State → Phase → Stage → Sight → Type 0
-PhaseAt NotYet terms requests found stage seen =
-    (looked : Wanted) × (sent : List ReadResponse) × (found ≡ phase.Ready looked) × IsReady requests looked stage seen sent
+abbrev pub IsLastAt : Option Connect → Sight → State → Wanted → Type 0
+IsLastAt None seen requests last = last ≡ ready.Over
+IsLastAt (Some connects) seen requests last = IsConnecting connects seen requests last
+
+abbrev pub IsLastFor : Flow → Doing → Sight → State → Option Link → Wanted → Type 0
+IsLastFor flow (upgraded server) seen requests side last = IsUpgraded flow server seen requests side last
+IsLastFor flow doing seen requests side last = last ≡ ready.Over
+
+abbrev pub IsLast : Terms → Stage → Sight → State → Option Link → Wanted → Type 0
+IsLast terms (idle at) seen requests side last = IsLastAt (connect_in terms.place (request_in seen)) seen requests last
+IsLast terms (busy at flow doing) seen requests side last = IsLastFor flow doing seen requests side last
+IsLast terms stage seen requests side last = last ≡ ready.Over
+
+abbrev pub PhaseAt : Look Command → Terms → At → State → Option Link → Phase → Stage → Sight → Type 0
+PhaseAt NotYet terms at requests side found stage seen =
+    (looked : Wanted) × (sent : List ReadResponse) × (found ≡ phase.Ready looked) × IsReady at requests side looked stage seen sent
     × (so_far stage seen ≡ sent_on stage sent)
-PhaseAt (Asks ask) terms requests found stage seen = (awaits : Asked) × (found ≡ phase.Asked awaits) × IsAsked terms requests awaits stage seen
-PhaseAt (Ends owed) terms requests found stage seen = (last : Wanted) × (found ≡ phase.Ready last) × IsLast terms stage seen requests last
+PhaseAt (Asks ask) terms at requests side found stage seen = (awaits : Asked) × (found ≡ phase.Asked awaits) × IsAsked terms requests side awaits stage seen
+PhaseAt (Ends owed) terms at requests side found stage seen = (last : Wanted) × (found ≡ phase.Ready last) × IsLast terms stage seen requests side last
 
--- ---- the parked side
+-- where the flow stands, and whether the client has closed; where the conversation has ended that counts for nothing
+pub record IsPlaced (here : At) (seen : Sight) (at : At) (closed : Bool) : Type 0 where
+  pub is_here : at ≡ here
+  pub client : closed ≡ seen.closed
 
--- where all requests go, unless their hooks send them elsewhere
-abbrev pub home_of : Place → Option Address
-home_of (places.Fixed address side inside) = Some address
-home_of place = None
-
--- A reader of no request's response, which was fed what was heard of the side behind the bytes that others have used, and nothing of it
--- was read.
-pub record IsUnread (side : ServerSide) (seen : Sight) (kept : KeptLink) : Type 0 where
-  pub server : kept.server ≡ side.server
-  pub closed : kept.closed ≡ seen.shut
-  pub within : side.used ≤ length seen.server
-  pub responses : kept.responses ≡ before_all (response false) (drop side.used seen.server) seen.shut
-
--- the side that is parked, which stands at the address of its place
-pub record IsHome (place : Place) (parked : Parked) (seen : Sight) (kept : KeptLink) : Type 0 where
-  pub home : home_of place ≡ Some parked.address
-  pub unread : IsUnread parked.side seen kept
-
-abbrev pub IsParked : Place → Option Parked → Sight → Option KeptLink → Type 0
-IsParked place None seen None = ⊤
-IsParked place (Some parked) seen (Some kept) = IsHome place parked seen kept
-IsParked place parked seen kept = ⊥
-
--- none is, where a flow uses a side
-pub record IsNoneParked (at : At) (kept : Option KeptLink) : Type 0 where
-  pub here : at.parked ≡ None
-  pub none : kept ≡ None
-
-abbrev pub HasParkedFor : Place → At → Doing → Sight → Option KeptLink → Type 0
-HasParkedFor place at (response_head side how) seen kept = IsNoneParked at kept
-HasParkedFor place at (response_body side how) seen kept = IsNoneParked at kept
-HasParkedFor place at (upgraded side) seen kept = IsNoneParked at kept
-HasParkedFor place at doing seen kept = IsParked place at.parked seen kept
-
-abbrev pub HasParked : Place → Stage → Sight → Option KeptLink → Type 0
-HasParked place (idle at) seen kept = IsParked place at.parked seen kept
-HasParked place (busy at flow doing) seen kept = HasParkedFor place at doing seen kept
-HasParked place (next at) seen kept = IsParked place at.parked seen kept
-HasParked place over seen kept = ⊤
-
--- the server that is parked, and whether it closed
-abbrev pub used_in : Option KeptLink → Used
-used_in None = NoServer
-used_in (Some kept) = ByServer kept.server kept.closed
-
--- a server's number fits where it is dialled
-abbrev pub DialsFor : At → Doing → Type 0
-DialsFor at (request_body given) = at.dials ≤ 4294967295
-DialsFor at connection = at.dials ≤ 4294967295
-DialsFor at _ = ⊤
-
-abbrev pub Dials : Stage → Type 0
-Dials (idle at) = at.dials ≤ 4294967295
-Dials (busy at flow doing) = DialsFor at doing
-Dials _ = ⊤
+abbrev pub HasPlace : Stage → Sight → At → Bool → Type 0
+HasPlace over seen at closed = ⊤
+HasPlace stage seen at closed = IsPlaced (place_of stage) seen at closed
 
 -- A state that was made on these terms, at this stage and in this sight.
 pub record IsIn (made : Terms) (state : Stream) (stage : Stage) (seen : Sight) : Type 0 where
   pub terms : state.terms ≡ made
-  pub place : HasPlace stage seen state.numbers state.client_closed
-  pub phase : PhaseAt (look made stage seen) made state.requests state.phase stage seen
-  pub dials : Dials stage
-  pub parked : HasParked made.place stage seen state.parked
+  pub place : HasPlace stage seen state.at state.client_closed
+  pub phase : PhaseAt (look made stage seen) made state.at state.requests state.side state.phase stage seen
 
 -- where the walk stopped at this stage and over this prefix
 pub record IsAt (made : Terms) (state : Stream) (place : Standing) (prefix : List (Timed Event)) : Type 0 where
@@ -332,11 +299,11 @@ pub record IsAt (made : Terms) (state : Stream) (place : Standing) (prefix : Lis
 -- ---- what is awaited
 
 abbrev pub asked_of : Asked → Ask
-asked_of (asked.Head flow expects) = hook_of flow RequestHead
-asked_of (asked.Body flow) = hook_of flow RequestBody
-asked_of (asked.Dial flow server) = asking.Dial server
-asked_of (asked.Answer flow link) = hook_of flow ResponseHead
-asked_of (asked.Returned flow link) = hook_of flow ResponseBody
+asked_of (asked.Idle flow expects) = hook_of flow RequestHead
+asked_of (asked.RequestBody flow) = hook_of flow RequestBody
+asked_of (asked.Connection flow server) = asking.Dial server
+asked_of (asked.ResponseHead flow server) = hook_of flow ResponseHead
+asked_of (asked.ResponseBody flow server) = hook_of flow ResponseBody
 asked_of (asked.GivenHead flow) = hook_of flow ResponseHead
 asked_of (asked.GivenBody flow) = hook_of flow ResponseBody
 
@@ -349,14 +316,12 @@ awaits state = awaited_in state.phase
 
 -- nothing more comes of it
 abbrev pub is_last : Phase → Bool
-is_last (phase.Ready ready.Finished) = true
 is_last (phase.Ready ready.Over) = true
 is_last (phase.Ready (ready.Connects address)) = true
-is_last (phase.Ready (ready.Upgraded flow link)) = true
+is_last (phase.Ready (ready.Upgraded flow server)) = true
 is_last _ = false
 
--- ---- what a state stands for
-
--- where a flow of this number starts, whose server has that one, and a side of its place is parked
-abbrev pub start_of : Place → Numbers → At
-start_of place numbers = record { flow = numbers.flow; dials = numbers.server; used = 0; parked = parked_of place }
+-- something is there
+abbrev pub IsSome : {A : Type 0} → Option A → Type 0
+IsSome (Some x) = ⊤
+IsSome None = ⊥

@@ -1,151 +1,130 @@
--- What an answer brings to what was asked: what is owed at once, what is looked for next, and the numbers behind it.
-use Rattle.std.specs.Prelude.{◌+◌, ℕ, Bool, true, false, List, [], Option, Some, None, min}
+-- What the calls of a stream do, in its own fields: an event is heard, an answer is taken, and then it looks once.
+use Rattle.std.specs.Prelude.{◌≡◌, ◌++◌, ℕ, Bool, true, false, List, [], Option, Some, None, ⊤}
 use Rattle.px_event.specs.declared.command.Command.{Command}
+use Rattle.px_event.specs.declared.event.Event.{Event}
 use Rattle.px_event.specs.declared.reply.Reply.{Reply}
+use Rattle.px_event.specs.Chain.{Timed, Turn}
+use Rattle.px_read.specs.Reader.{State, request, before_all}
 use Rattle.px_exchange.specs.declared.ending.Used.{Used}
-use Rattle.px_exchange.specs.declared.ending.Used.TheVariants.{ByServer}
 use Rattle.px_exchange.specs.declared.place.Place.{Place}
-use Rattle.px_stream.specs.declared.link.Link.{Link as KeptLink}
-use Rattle.px_stream.specs.declared.phase.Asked.{Asked}
-use Rattle.px_stream.specs.declared.phase.Asked.TheVariants as asked
-use Rattle.px_stream.specs.declared.phase.Wanted.{Wanted}
-use Rattle.px_stream.specs.declared.phase.Wanted.TheVariants as ready
 use Rattle.px_exchange.specs.declared.taken.Taken.{Taken}
-use Rattle.px_stream.specs.declared.numbers.Numbers.{Numbers}
+use Rattle.px_exchange.specs.Replies.{taken_at_body_of, taken_at_head_of, taken_at_request_body, taken_at_request_head}
+use Rattle.px_exchange.specs.Requests.{is_head}
 use Rattle.px_message.specs.declared.flow.Flow.{Flow}
 use Rattle.px_message.specs.declared.response.Response.{Response}
-use Rattle.px_exchange.specs.Dials.{connected_owes, dial_owes}
-use Rattle.px_exchange.specs.Endings.{ends_early, killed_message}
-use Rattle.px_exchange.specs.Texts.{meets_expectation}
-use Rattle.px_chain.specs.Chain.{turn_response, turn_taken_answer, turn_taken_given, turn_taken_returned, turn_taken_whole}
-use Rattle.px_message.specs.declared.request.Request.{Request}
-use Rattle.px_exchange.specs.declared.taken.Taken.TheVariants.{GoesOn, Responds, Kills}
-use Rattle.px_stream.specs.Phases.{behind_dial, behind_given_head, behind_request, behind_request_head, behind_response, behind_response_head, behind_whole, goes_home, link_home, no_side, numbered, where_response}
-use Rattle.px_stream.specs.Stands.{used_in}
-use Rattle.px_exchange.specs.Replies.{taken_at_request_body, taken_at_request_head, taken_at_response_body, taken_at_response_head}
+use Rattle.px_chain.specs.Chain.{sequence, stops, turn_dial, turn_taken_answer, turn_taken_body, turn_taken_given, turn_taken_head, turn_taken_returned, turn_taken_whole}
+use Rattle.px_chain.specs.Sights.{Sight, server_in, server_parked}
+use Rattle.px_chain.specs.Stages.{At, Doing, Parked, Stage, busy, idle, response_body, response_head, upgraded}
+use Rattle.px_stream.specs.declared.link.Link.{Link}
+use Rattle.px_stream.specs.declared.phase.Asked.{Asked}
+use Rattle.px_stream.specs.declared.phase.Asked.TheVariants as asked
+use Rattle.px_stream.specs.declared.phase.Phase.TheVariants as phase
+use Rattle.px_stream.specs.declared.phase.Wanted.{Wanted}
+use Rattle.px_stream.specs.declared.stream.Stream.{Stream}
+use Rattle.px_stream.specs.Heard.{SideAgrees, closes_client, requests_take, side_takes, side_with}
+use Rattle.px_stream.specs.Looks.{LookFound, MayLook}
+use Rattle.px_stream.specs.Stands.{HasPlace, IsReady, content_in, is_last, sent_on, stage_of, unread_link, used_in}
 
--- a response in place of the server's
-abbrev pub returned_owes : ℕ → Flow → Used → Reply → ℕ → Bool → List Command
-returned_owes index flow used answer moment closed =
-    (turn_response flow.response (λ message. taken_at_response_body message answer)
-    (λ taken. turn_taken_returned (numbered index) flow taken moment used closed)).owed
+-- ---- what an answer brings to what was asked
 
-abbrev pub returned_leads : ℕ → Flow → Reply → Wanted
-returned_leads index flow answer =
-    where_response flow.response (λ message. taken_at_response_body message answer) (λ taken. behind_response index flow taken)
+-- by what the reply was taken for, where the flow has the response that its hook is about
+abbrev pub taken_turn : Option (Taken Response) → (Taken Response → Turn Stage Command) → Turn Stage Command
+taken_turn None goes = stops
+taken_turn (Some taken) goes = goes taken
 
--- a response of the server
-abbrev pub read_owes : ℕ → Flow → Used → Reply → ℕ → Bool → List Command
-read_owes index flow used answer moment closed =
-    (turn_response flow.response (λ message. taken_at_response_body message answer)
-    (λ taken. turn_taken_whole (numbered index) flow no_side taken moment used closed)).owed
+-- in this sight, beside this open side, and by whether the client has closed
+abbrev pub asked_turn : Place → At → Asked → Sight → Used → Bool → Timed Reply → Turn Stage Command
+asked_turn place at (asked.Idle flow expected) seen used closed answer =
+    turn_taken_head at flow expected (taken_at_request_head flow.request answer.value) answer.moment seen
+asked_turn place at (asked.RequestBody flow) seen used closed answer =
+    turn_taken_body place at flow (taken_at_request_body flow.request answer.value) answer.moment seen
+asked_turn place at (asked.Connection flow server) seen used closed answer = turn_dial place at flow answer closed
+asked_turn place at (asked.ResponseHead flow server) seen used closed answer =
+    taken_turn (taken_at_head_of flow.response answer.value) (λ taken. turn_taken_answer at flow server taken answer.moment used closed)
+asked_turn place at (asked.ResponseBody flow server) seen used closed answer =
+    taken_turn (taken_at_body_of flow.response answer.value) (λ taken. turn_taken_whole at flow server taken answer.moment used closed)
+asked_turn place at (asked.GivenHead flow) seen used closed answer =
+    taken_turn (taken_at_head_of flow.response answer.value) (λ taken. turn_taken_given at flow taken answer.moment used closed)
+asked_turn place at (asked.GivenBody flow) seen used closed answer =
+    taken_turn (taken_at_body_of flow.response answer.value) (λ taken. turn_taken_returned at flow taken answer.moment used closed)
 
-abbrev pub read_leads : ℕ → Flow → KeptLink → Reply → Wanted
-read_leads index flow link answer =
-    where_response flow.response (λ message. taken_at_response_body message answer) (λ taken. behind_whole index flow link taken)
+abbrev pub turned_by : Place → At → Option Asked → Sight → Used → Bool → Timed Reply → Turn Stage Command
+turned_by place at None seen used closed answer = stops
+turned_by place at (Some found) seen used closed answer = asked_turn place at found seen used closed answer
 
--- the hook of a request's head
-abbrev pub head_owes : Flow → Bool → Taken Request → ℕ → Used → Bool → List Command
-head_owes flow expected Kills moment used closed = ends_early flow killed_message moment used closed
-head_owes flow expected taken moment used closed = meets_expectation expected
+-- The sight shows the side that is used there, and whether the client has closed.
+abbrev pub used_at : At → Asked → Sight → Used
+used_at at (asked.ResponseHead flow server) seen = server_in server seen
+used_at at (asked.ResponseBody flow server) seen = server_in server seen
+used_at at found seen = server_parked at.parked seen
 
--- and of the whole of it: it goes on to this side, or its server is to be dialled
-abbrev pub request_to : Option KeptLink → Place → Flow → List Command
-request_to None place flow = []
-request_to (Some kept) place flow = connected_owes place flow kept.server
+pub record Shows (at : At) (found : Asked) (used : Used) (closed : Bool) (seen : Sight) : Type 0 where
+  pub is_used : used_at at found seen ≡ used
+  pub is_closed : seen.closed ≡ closed
 
-abbrev pub request_owes : Place → Flow → Option KeptLink → Taken Request → ℕ → Used → Bool → List Command
-request_owes place flow parked (GoesOn message) moment used closed =
-    request_to (link_home (goes_home place message) parked) place (record flow { request = message })
-request_owes place flow parked (Responds given) moment used closed = []
-request_owes place flow parked Kills moment used closed = ends_early flow killed_message moment used closed
+-- ---- the readers behind it
 
-abbrev pub asked_owes : Place → ℕ → Option KeptLink → Asked → Reply → ℕ → Bool → List Command
-asked_owes place index parked (asked.Head flow expected) answer moment closed =
-    head_owes flow expected (taken_at_request_head flow.request answer) moment (used_in parked) closed
-asked_owes place index parked (asked.Body flow) answer moment closed =
-    request_owes place flow parked (taken_at_request_body flow.request answer) moment (used_in parked) closed
-asked_owes place index parked (asked.Dial flow server) answer moment closed = dial_owes place flow server answer moment closed
-asked_owes place index parked (asked.Answer flow link) answer moment closed =
-    (turn_response flow.response (λ message. taken_at_response_head message answer)
-    (λ taken. turn_taken_answer (numbered 0) flow no_side taken moment (ByServer link.server link.closed) closed)).owed
-asked_owes place index parked (asked.Returned flow link) answer moment closed =
-    read_owes index flow (ByServer link.server link.closed) answer moment closed
-asked_owes place index parked (asked.GivenHead flow) answer moment closed =
-    (turn_response flow.response (λ message. taken_at_response_head message answer)
-    (λ taken. turn_taken_given (numbered 0) flow taken moment (used_in parked) closed)).owed
-asked_owes place index parked (asked.GivenBody flow) answer moment closed = returned_owes index flow (used_in parked) answer moment closed
+-- the next request begins with what waits behind the one before
+abbrev pub requests_behind : Stage → State → State
+requests_behind (idle at) requests = before_all request requests.rest false
+requests_behind stage requests = requests
 
-abbrev pub asked_leads : Place → ℕ → Option KeptLink → Asked → Reply → Wanted
-asked_leads place index parked (asked.Head flow expected) answer = behind_request_head flow (taken_at_request_head flow.request answer)
-asked_leads place index parked (asked.Body flow) answer = behind_request place flow parked (taken_at_request_body flow.request answer)
-asked_leads place index parked (asked.Dial flow server) answer = behind_dial place flow server answer
-asked_leads place index parked (asked.Answer flow link) answer =
-    where_response flow.response (λ message. taken_at_response_head message answer) (λ taken. behind_response_head flow link taken)
-asked_leads place index parked (asked.Returned flow link) answer = read_leads index flow link answer
-asked_leads place index parked (asked.GivenHead flow) answer =
-    where_response flow.response (λ message. taken_at_response_head message answer) (λ taken. behind_given_head flow taken)
-asked_leads place index parked (asked.GivenBody flow) answer = returned_leads index flow answer
+abbrev pub is_dial : Asked → Bool
+is_dial (asked.Connection flow server) = true
+is_dial found = false
 
--- the parked side behind it: a request that goes there takes it, and the answer to a dial drops it, which closed it
-abbrev pub unless_taken : Bool → Option KeptLink → Option KeptLink
-unless_taken true parked = None
-unless_taken false parked = parked
+-- A server that was dialled has sent nothing yet; of one that was parked all that waits is to be read.
+abbrev pub opened_side : Bool → ℕ → Bool → Option Link → Option Link
+opened_side true server asked_head side = Some (unread_link server asked_head [] false)
+opened_side false server asked_head side = side_with (λ link. unread_link link.server asked_head link.responses.rest link.closed) side
 
-abbrev pub request_parks : Place → Taken Request → Option KeptLink → Option KeptLink
-request_parks place (GoesOn message) parked = unless_taken (goes_home place message) parked
-request_parks place _ parked = parked
+-- No side is open that neither a flow uses nor waits for one.
+abbrev pub unless_parked : Option Parked → Option Link → Option Link
+unless_parked None side = None
+unless_parked (Some parked) side = side
 
-abbrev pub behind_parked : Place → Asked → Reply → Option KeptLink → Option KeptLink
-behind_parked place (asked.Body flow) answer parked = request_parks place (taken_at_request_body flow.request answer) parked
-behind_parked place (asked.Dial flow server) answer parked = None
-behind_parked place _ answer parked = parked
+abbrev pub side_for : Bool → At → Flow → Doing → Option Link → Option Link
+side_for dials at flow (response_head server sent) side = opened_side dials server (is_head flow.request.method) side
+side_for dials at flow (response_body server sent) side = side
+side_for dials at flow (upgraded server) side = side
+side_for dials at flow doing side = unless_parked at.parked side
 
--- ---- by what the reply was taken for, where the flow has a response
+abbrev pub side_behind : Bool → Stage → Option Link → Option Link
+side_behind dials (idle at) side = unless_parked at.parked side
+side_behind dials (busy at flow doing) side = side_for dials at flow doing side
+side_behind dials stage side = side
 
-abbrev pub answer_owes : Flow → KeptLink → Option (Taken Response) → ℕ → Bool → List Command
-answer_owes flow link None moment closed = []
-answer_owes flow link (Some taken) moment closed =
-    (turn_taken_answer (numbered 0) flow no_side taken moment (ByServer link.server link.closed) closed).owed
+-- ---- the calls
 
-abbrev pub answer_leads : Flow → KeptLink → Option (Taken Response) → Wanted
-answer_leads flow link None = ready.Over
-answer_leads flow link (Some taken) = behind_response_head flow link taken
+-- What a turn of the chain is for a machine that looks for that, in the sight behind it.
+pub record Turned (stage : Stage) (seen : Sight) (at : At) (requests : State) (side : Option Link) (looked : Wanted) (closed : Bool) : Type 0 where
+  pub none_sent : sent_on stage [] ≡ []
+  pub is_ready : IsReady at requests side looked stage seen []
+  pub place : HasPlace stage seen at closed
 
-abbrev pub given_owes : Flow → Option (Taken Response) → ℕ → Used → Bool → List Command
-given_owes flow None moment used closed = []
-given_owes flow (Some taken) moment used closed = (turn_taken_given (numbered 0) flow taken moment used closed).owed
+-- It took this answer to what it asked, and is to look for that.
+pub record TurnsTo (before after : Stream) (moment : ℕ) (reply : Reply) (found : Asked) (looked : Wanted) (out longer : List Command) : Type 0 where
+  pub terms : after.terms ≡ before.terms
+  pub client : after.client_closed ≡ before.client_closed
+  pub gives : (seen : Sight) → Shows before.at found (used_in before.side) before.client_closed seen →
+      longer ≡ out ++ (asked_turn before.terms.place before.at found seen (used_in before.side) before.client_closed (record { moment = moment; value = reply })).owed
+  pub leads : (seen : Sight) → Shows before.at found (used_in before.side) before.client_closed seen →
+      stage_of after.at looked ≡ sequence (asked_turn before.terms.place before.at found seen (used_in before.side) before.client_closed (record { moment = moment; value = reply })).stage
+  pub content : content_in looked ≡ []
+  pub requests : after.requests ≡ requests_behind (stage_of after.at looked) before.requests
+  pub side : after.side ≡ side_behind (is_dial found) (stage_of after.at looked) before.side
 
-abbrev pub given_leads : Flow → Option (Taken Response) → Wanted
-given_leads flow None = ready.Over
-given_leads flow (Some taken) = behind_given_head flow taken
+-- It looked once.
+pub record LooksOnce (before after : Stream) (moment : ℕ) (looked : Wanted) (out longer : List Command) : Type 0 where
+  pub terms : after.terms ≡ before.terms
+  pub at : after.at ≡ before.at
+  pub client : after.client_closed ≡ before.client_closed
+  pub looks : LookFound before.terms before.at (used_in before.side) moment before.client_closed looked before.requests after.requests before.side after.side out longer after.phase
 
-abbrev pub whole_owes : ℕ → Flow → Option (Taken Response) → ℕ → Used → Bool → List Command
-whole_owes index flow None moment used closed = []
-whole_owes index flow (Some taken) moment used closed = (turn_taken_returned (numbered index) flow taken moment used closed).owed
-
-abbrev pub whole_leads : ℕ → Flow → Option (Taken Response) → Wanted
-whole_leads index flow None = ready.Over
-whole_leads index flow (Some taken) = behind_response index flow taken
-
-abbrev pub read_whole_owes : ℕ → Flow → Option (Taken Response) → ℕ → Used → Bool → List Command
-read_whole_owes index flow None moment used closed = []
-read_whole_owes index flow (Some taken) moment used closed = (turn_taken_whole (numbered index) flow no_side taken moment used closed).owed
-
-abbrev pub read_whole_leads : ℕ → Flow → KeptLink → Option (Taken Response) → Wanted
-read_whole_leads index flow link None = ready.Over
-read_whole_leads index flow link (Some taken) = behind_whole index flow link taken
-
--- one more, as far as a number of 32 bits goes
-abbrev pub one_on : ℕ → ℕ
-one_on n = min (n + 1) 4294967295
-
--- a server's number is used by its dial
-abbrev pub behind_asked : Numbers → Asked → Numbers
-behind_asked numbers (asked.Dial flow server) = record numbers { server = one_on numbers.server }
-behind_asked numbers _ = numbers
-
--- and a flow's by its end
-abbrev pub behind_ready : Numbers → Wanted → Numbers
-behind_ready numbers ready.Finished = record numbers { flow = one_on numbers.flow }
-behind_ready numbers _ = numbers
+-- Its readers heard this event.
+pub record Hears (before after : Stream) (event : Event) : Type 0 where
+  pub terms : after.terms ≡ before.terms
+  pub at : after.at ≡ before.at
+  pub client : after.client_closed ≡ closes_client event before.client_closed
+  pub requests : after.requests ≡ requests_take event before.requests
+  pub side : after.side ≡ side_takes event before.side

@@ -1,7 +1,6 @@
 //! Leaving a phase, and entering the next one.
 ghost use Rattle.std.specs.Prelude.{◌≡◌, None};
-ghost use Rattle.px_stream.specs.Calls.{IsSome};
-ghost use Rattle.px_stream.specs.Stands.{awaited_in};
+ghost use Rattle.px_stream.specs.Stands.{IsSome, awaited_in};
 
 use crate::phase::{Asked, Phase, Wanted};
 use std::mem;

@@ -1,23 +1,27 @@
-//! A machine beside the chain of a conversation of HTTP/1.1 (`px_chain`): one flow, from the request's head to the response's last
-//! byte, and flows in sequence.
+//! A machine beside the chain of a conversation of HTTP/1.1 (`px_chain`): flows in sequence, each from the request's head to the
+//! response's last byte.
 //!
-//! `Stream` keeps the readers of both sides and the flow, and looks at each byte once: `phase` is where it stands, `stream` hands it
-//! events and replies, `looking` and `reading` are its looks, `turning` is where a reply leads. Its commands, seen in each view, are
-//! what due has grown by.
+//! `Stream` keeps the readers of both sides and the flow, and looks at each byte once: `at` is where its conversation stands, `phase`
+//! what it looks for there, or has asked, under the names of the chain's stages; `stream` hands it events and replies, `looking` and
+//! `reading` are its looks, `turning` is where a reply leads, and `following` takes the readers there. Its commands, seen in each view,
+//! are what due has grown by.
 //!
-//! What its fields are is said at a stage and in a sight (`specs/Stands.antt`): what it reads is where the stage stands in the
-//! joined bytes that the stage sees. So an event more is a sight with one event more (`specs/Heard.antt`), a look is in one sight
-//! (`specs/Looking.antt`), and a reply leads to the sight behind it (`specs/Turns.antt`). Fronts of a walk are met in two places
-//! alone, where an event and where a reply is joined to it.
+//! What its fields are is said at a stage and in a sight (`specs/Stands.antt`): what it reads is what the stage sees. So an event more
+//! is a sight with one event more (`specs/Heard.antt`), a look is in one sight (`specs/Looks.antt`), and a reply leads to the sight
+//! behind it, by the chain's own words (`specs/Turns.antt`). Fronts of a walk are met in two places alone, where an event and where a
+//! reply is joined to it.
 //!
-//! So over `GET / HTTP/1.1` CRLF `Host: h` CRLF CRLF it asks the hook of a head (`Asked::Head`); a reply that goes on leads to
-//! `Wanted::Receiving`, where the request is whole and its hook is asked; then `Asked::Dial` awaits the server, whose connection owes
-//! it the request's text and leads to `Wanted::Answering`.
+//! So over `GET / HTTP/1.1` CRLF `Host: h` CRLF CRLF it asks the hook of a head (`Asked::Idle`); a reply that goes on leads to
+//! `Wanted::RequestBody`, where the request is whole and its hook is asked; then `Asked::Connection` awaits the server, whose
+//! connection owes it the request's text and leads to `Wanted::ResponseHead`. Behind a finished flow the next one's head is looked
+//! for, in what the client sent behind it.
 //!
 //! Two ends lead to something else: a CONNECT, which is read to its end (`Wanted::Connects`), and a response of code 101, once it
-//! was sent (`Wanted::Upgraded`). Whoever goes on takes out what neither side's reader used (`Stream::into_rests`). And where flows follow
-//! something else over the same events, `Stream::begin` starts a stream with what was not used there, and `take_anywhere` and
-//! `resume_anywhere` say what a call does at whatever place of a walk it stands (`specs/Anywhere.antt`).
+//! was sent (`Wanted::Upgraded`). Whoever goes on takes out what neither side's reader used (`Stream::into_rests`).
+//!
+//! Flows may follow something else over the same events, and something else may follow them: so each call says what it does at whatever
+//! place of a walk the stream stands (`specs/Anywhere.antt`), `begin` starts one with what was not used before, and `go_on_with` one
+//! whose flow's request others have read.
 //!
 //! Where the server is reached through another proxy, that proxy is what is dialled, and whoever goes on asks it for a tunnel to
 //! where `Stream::leads_to` says. Meanwhile the dial is awaited still: `hear_waiting` hears what comes, and gives nothing. At last
@@ -31,20 +35,20 @@
 //! `laws` says that the machine follows the chain, step by step.
 #![tactic(auto)]
 
+mod at;
+mod following;
 mod hearing;
 pub mod laws;
-mod layer;
 mod leaving;
 mod link;
 mod looking;
-mod numbers;
 mod phase;
+pub mod probe;
 mod reading;
-mod rests;
 mod sizes;
 mod stream;
 mod turning;
 
-pub use numbers::Numbers;
+pub use at::{At, Parked};
 pub use px_exchange::{Outcome, Place};
 pub use stream::Stream;

@@ -1,18 +1,18 @@
-//! The server's side of a flow: the responses that come on it.
-ghost use Rattle.std.specs.Prelude.{◌≡◌, false, [], OnOk, IfOk};
-ghost use Rattle.px_read.specs.Reader.{before_all, response};
-ghost use Rattle.px_stream.specs.Heard.{IsUnshut, ParkedAgrees, link_closes, link_hears, parked_closes, parked_feeds, parked_hears};
-ghost use Rattle.px_stream.specs.Phases.{link_for, parked_at};
-ghost use Rattle.px_stream.specs.Sequence.{open_parked};
-ghost use Rattle.px_stream.specs.Stands.{used_in};
+//! The server's side that is open: the one that a flow uses, with the responses that come on it, or the one that is parked.
+ghost use Rattle.std.specs.Prelude.{◌≡◌, [], false, OnOk, IfOk};
+ghost use Rattle.px_stream.specs.Anywhere.{unheard};
+ghost use Rattle.px_stream.specs.Heard.{IsUnshut, SideAgrees, feeds, link_closes, link_hears, side_with};
+ghost use Rattle.px_stream.specs.Stands.{unread_link, used_in};
+ghost use Rattle.px_stream.specs.Tells.{closed_in, side_rest};
+ghost use Rattle.px_stream.specs.Turns.{opened_side};
 
-use px_exchange::Place;
+use crate::at::Parked;
 use px_exchange::ending::Used;
 use px_read::MessageReader;
 use px_text::{Bytes, NoMemory};
 use std::alloc::Global;
 
-/// The server's side of a flow.
+/// The side of a server.
 #[derive(Debug, Drop)]
 pub struct Link {
     pub server: u32,
@@ -24,7 +24,7 @@ pub struct Link {
 impl Link {
     /// The side of this server, which has sent nothing yet, for the answer to a HEAD or not.
     pub fn new(alloc: Global, server: u32, asked_head: bool) -> Link
-        ensures { result ≡ record { server = server; asked_head = asked_head; responses = before_all (response asked_head) [] false; closed = false } }
+        ensures { result ≡ unread_link server asked_head [] false }
     {
         Link {
             server,
@@ -34,27 +34,9 @@ impl Link {
         }
     }
 
-    /// The server of this side, and whether it closed.
-    pub fn used(&self) -> Used
-        ensures { result ≡ Used.ByServer self.now.server self.now.closed }
-    {
-        Used::ByServer {
-            number: self.server,
-            closed: self.closed,
-        }
-    }
-
-    /// What was fed and not used of this side.
-    pub fn into_rest(self) -> Result<Bytes, NoMemory>
-        ensures { IfOk result (λ rest. rest ≡ self.responses.rest) }
-    {
-        let Link { responses, .. } = self;
-        responses.into_rest()
-    }
-
-    /// The same side, for the answer to a HEAD or not, where nothing of it was read: all that was heard of it is to be read.
-    pub fn into_unread(self, alloc: Global, asked_head: bool) -> Result<Link, NoMemory>
-        ensures { IfOk result (λ link. link ≡ link_for asked_head self) }
+    // The same side, for the answer to a HEAD or not: all that waits of it is to be read.
+    fn into_unread(self, alloc: Global, asked_head: bool) -> Result<Link, NoMemory>
+        ensures { IfOk result (λ link. link ≡ unread_link self.server asked_head self.responses.rest self.closed) }
     {
         let Link {
             server,
@@ -70,8 +52,8 @@ impl Link {
         Ok(link)
     }
 
-    /// Bytes of the server of that number.
-    pub fn hear(&mut self, server: u32, bytes: &Bytes) -> Result<(), NoMemory>
+    // Bytes of the server of that number.
+    fn hear(&mut self, server: u32, bytes: &Bytes) -> Result<(), NoMemory>
         requires same { self.old.responses.closed ≡ self.old.closed }
         ensures { OnOk result (self.new ≡ link_hears server bytes.now self.old) }
     {
@@ -84,8 +66,8 @@ impl Link {
         self.responses.feed(bytes)
     }
 
-    /// The close of the server of that number.
-    pub fn close(&mut self, server: u32)
+    // The close of the server of that number.
+    fn close(&mut self, server: u32)
         ensures { self.new ≡ link_closes server self.old }
     {
         if server == self.server {
@@ -95,72 +77,104 @@ impl Link {
     }
 }
 
-/// The parked side of a place, of which nothing was heard yet, if it has one.
-pub fn parked_side(alloc: Global, place: &Place) -> Option<Link>
-    ensures { result ≡ parked_at place.now }
+/// The side that is parked, of which nothing was heard yet, if one is.
+pub fn unheard(alloc: Global, parked: &Option<Parked>) -> Option<Link>
+    ensures { result ≡ unheard parked.now }
 {
-    match place {
-        Place::Fixed {
-            side: Some(server),
-            ..
-        } => Some(Link::new(alloc, *server, false)),
-        _ => None,
+    match parked {
+        Some(parked) => Some(Link::new(alloc, parked.server, false)),
+        None => None,
     }
 }
 
-/// Bytes of the server that is parked, if one is: they were heard before it was parked here.
-pub fn feed_parked(parked: &mut Option<Link>, bytes: &Bytes) -> Result<(), NoMemory>
-    requires { IsUnshut parked.old }
-    ensures { OnOk result (parked.new ≡ parked_feeds bytes.now parked.old) }
+/// The side that a request went to, for its answer: nothing was heard of a server that was dialled, and of a parked one all that waits is to be read.
+pub fn open(
+    alloc: Global,
+    dialled: bool,
+    server: u32,
+    asked_head: bool,
+    side: Option<Link>,
+) -> Result<Option<Link>, NoMemory>
+    ensures { IfOk result (λ opened. opened ≡ opened_side dialled server asked_head side) }
 {
-    match parked {
-        Some(link) => link.responses.feed(bytes),
-        None => Ok(()),
+    if dialled {
+        drop(side);
+        return Ok(Some(Link::new(alloc, server, asked_head)));
+    }
+    match side {
+        Some(link) => Ok(Some(link.into_unread(alloc, asked_head)?)),
+        None => Ok(None),
     }
 }
 
-/// Bytes of the server of that number, where it is parked.
-pub fn hear_parked(parked: &mut Option<Link>, server: u32, bytes: &Bytes) -> Result<(), NoMemory>
-    requires { ParkedAgrees parked.old }
-    ensures { OnOk result (parked.new ≡ parked_hears server bytes.now parked.old) }
+/// Bytes of the server of that number, where its side is open.
+pub fn hear(side: &mut Option<Link>, server: u32, bytes: &Bytes) -> Result<(), NoMemory>
+    requires { SideAgrees side.old }
+    ensures { OnOk result (side.new ≡ side_with (link_hears server bytes.now) side.old) }
 {
-    match parked {
+    match side {
         Some(link) => link.hear(server, bytes),
         None => Ok(()),
     }
 }
 
-/// The close of the server of that number, where it is parked.
-pub fn close_parked(parked: &mut Option<Link>, server: u32)
-    ensures { parked.new ≡ parked_closes server parked.old }
+/// The close of the server of that number, where its side is open.
+pub fn close(side: &mut Option<Link>, server: u32)
+    ensures { side.new ≡ side_with (link_closes server) side.old }
 {
-    match parked {
+    match side {
         Some(link) => link.close(server),
         None => {}
     }
 }
 
-/// The server that is parked, if one is, and whether it closed.
-pub fn parked_server(parked: &Option<Link>) -> Used
-    ensures { result ≡ used_in parked.now }
+/// Bytes of the open side that were heard by others: its server had not closed.
+pub fn feed(side: &mut Option<Link>, bytes: &Bytes) -> Result<(), NoMemory>
+    requires { IsUnshut side.old }
+    ensures { OnOk result (side.new ≡ side_with (λ link. record link { responses = feeds bytes.now link.responses }) side.old) }
 {
-    match parked {
-        Some(link) => link.used(),
+    match side {
+        Some(link) => link.responses.feed(bytes),
+        None => Ok(()),
+    }
+}
+
+/// The server whose side is open, if one is, and whether it closed.
+pub fn used(side: &Option<Link>) -> Used
+    ensures { result ≡ used_in side.now }
+{
+    match side {
+        Some(link) => Used::ByServer {
+            number: link.server,
+            closed: link.closed,
+        },
         None => Used::NoServer,
     }
 }
 
-/// The number of a parked side, unless its server has closed.
-pub fn open_number(parked: &Option<Link>) -> Option<u32>
-    ensures { result ≡ open_parked parked.now }
+/// Whether the open side has closed, if one is open.
+pub fn is_closed(side: &Option<Link>) -> bool
+    ensures { result ≡ closed_in side.now }
 {
-    match parked {
+    match side {
+        Some(link) => link.closed,
+        None => false,
+    }
+}
+
+/// What waits of the open side, where it is asked for.
+pub fn into_rest(side: Option<Link>, asked: bool) -> Result<Bytes, NoMemory>
+    ensures { IfOk result (λ rest. rest ≡ side_rest asked side) }
+{
+    if !asked {
+        drop(side);
+        return Ok(Bytes::empty());
+    }
+    match side {
         Some(link) => {
-            if link.closed {
-                return None;
-            }
-            Some(link.server)
+            let Link { responses, .. } = link;
+            responses.into_rest()
         }
-        None => None,
+        None => Ok(Bytes::empty()),
     }
 }

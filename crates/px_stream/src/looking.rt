@@ -5,12 +5,12 @@ ghost use Rattle.px_event.specs.declared.command.Command.TheVariants as commands
 ghost use Rattle.px_exchange.specs.Flows.{ask_of, with_end, with_start};
 ghost use Rattle.px_exchange.specs.Endings.{closed_message, ends_by_fault, ends_early, shut_server};
 ghost use Rattle.px_exchange.specs.Places.{dialled_for};
-ghost use Rattle.px_stream.specs.Looking.{LookFound, MayLook};
-ghost use Rattle.px_stream.specs.Phases.{is_over};
+ghost use Rattle.px_stream.specs.Looks.{LookFound, MayLook, is_over};
 
 use crate::looking::answer::{look_for_answer, look_for_returned};
 use crate::looking::request::{look_for_body, look_for_head};
-use crate::numbers::Numbers;
+use crate::at::At;
+use crate::link::Link;
 use crate::phase::{Asked, Phase, Wanted};
 use px_event::{Command, Hook};
 use px_exchange::ending::{Used, end_by_fault, end_early, part};
@@ -29,27 +29,29 @@ mod request;
 pub fn look(
     terms: &Terms,
     now: Now,
-    numbers: Numbers,
+    at: &At,
     requests: &mut MessageReader,
+    side: &mut Option<Link>,
     ready: Wanted,
     out: &mut Vec<Command>,
 ) -> Result<Phase, NoMemory>
-    requires may_look { MayLook ready requests.old }
-    ensures looks { IfOk result (λ next. LookFound terms.now numbers now.parked ready requests.old requests.new now.moment now.client_closed out.old.items out.new.items next) }
+    requires may_look { MayLook ready requests.old side.old }
+    ensures looks { IfOk result (λ next. LookFound terms.now at.now now.parked now.moment now.client_closed ready requests.old requests.new side.old side.new out.old.items out.new.items next) }
 {
     match ready {
-        Wanted::Idle => look_for_head(terms, now, numbers.flow, requests, out),
-        Wanted::Receiving { flow, given, body } => {
+        Wanted::Idle => look_for_head(terms, now, at.flow, requests, out),
+        Wanted::RequestBody { flow, given, body } => {
             look_for_body(now, requests, flow, given, body, out)
         }
-        Wanted::Dialling { flow } => dial(&terms.place, now, numbers.server, flow, out),
-        Wanted::Answering { flow, link } => look_for_answer(now, flow, link, out),
-        Wanted::Returning { flow, link, body } => look_for_returned(now, flow, link, body, out),
+        Wanted::Connection { flow } => dial(&terms.place, now, at.dials, flow, out),
+        Wanted::ResponseHead { flow, server } => look_for_answer(now, side, flow, server, out),
+        Wanted::ResponseBody { flow, server, body } => {
+            look_for_returned(now, side, flow, server, body, out)
+        }
         Wanted::GivenHead { flow } => ask_given_head(now, flow, out),
         Wanted::GivenBody { flow } => ask_given_body(now, flow, out),
-        Wanted::Finished => Ok(Phase::Ready(Wanted::Finished)),
+        Wanted::Upgraded { flow, server } => Ok(Phase::Ready(Wanted::Upgraded { flow, server })),
         Wanted::Connects { address } => Ok(Phase::Ready(Wanted::Connects { address })),
-        Wanted::Upgraded { flow, link } => Ok(Phase::Ready(Wanted::Upgraded { flow, link })),
         Wanted::Over => Ok(Phase::Ready(Wanted::Over)),
     }
 }
@@ -63,7 +65,7 @@ fn dial(
     out: &mut Vec<Command>,
 ) -> Result<Phase, NoMemory>
     ensures gives { OnOk result (out.new.items ≡ out.old.items ++ commands.Dial server (dialled_for place.now flow.request) None ∷ shut_server now.parked) }
-    ensures phase { IfOk result (λ next. next ≡ Phase.Asked (Asked.Dial flow server)) }
+    ensures phase { IfOk result (λ next. next ≡ Phase.Asked (Asked.Connection flow server)) }
 {
     out.push(Command::Dial {
         server,
@@ -71,7 +73,7 @@ fn dial(
         inside: None,
     })?;
     part(now.parked, out)?;
-    Ok(Phase::Asked(Asked::Dial { flow, server }))
+    Ok(Phase::Asked(Asked::Connection { flow, server }))
 }
 
 // Asks the hook of the head of a response that was given in place of the server's.

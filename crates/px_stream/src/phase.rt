@@ -1,8 +1,7 @@
-//! Where the present flow stands: what it looks for, or what it asked.
+//! Where the present flow stands: what it looks for, or what it asked. The names are those of the chain's stages.
 ghost use Rattle.std.specs.Prelude.{◌≡◌};
 ghost use Rattle.px_stream.specs.Stands.{asked_of, awaited_in};
 
-use crate::link::Link;
 use px_event::{Ask, Hook};
 use px_exchange::Boxed;
 use px_exchange::content::Content;
@@ -15,25 +14,30 @@ pub enum Wanted {
     /// The head of a request.
     Idle,
     /// The request's body; a response may be given already.
-    Receiving {
+    RequestBody {
         flow: Boxed<Flow>,
         given: Option<Shared<Response>>,
         body: Content,
     },
-    /// The request is whole: its server is to be dialled.
-    Dialling {
+    /// The connection to its server, which is to be dialled: the request is whole.
+    Connection {
         flow: Boxed<Flow>,
     },
-    /// The head of the final response.
-    Answering {
+    /// The head of the final response, of this server.
+    ResponseHead {
         flow: Boxed<Flow>,
-        link: Boxed<Link>,
+        server: u32,
     },
     /// The response's body.
-    Returning {
+    ResponseBody {
         flow: Boxed<Flow>,
-        link: Boxed<Link>,
+        server: u32,
         body: Content,
+    },
+    /// Nothing: a response of code 101 was sent, and what follows on both sides is of another protocol.
+    Upgraded {
+        flow: Boxed<Flow>,
+        server: u32,
     },
     /// A response was given in place of the server's: the hook of its head is to be asked.
     GivenHead {
@@ -43,47 +47,40 @@ pub enum Wanted {
     GivenBody {
         flow: Boxed<Flow>,
     },
-    /// Nothing: the flow is finished, and the client's connection goes on.
-    Finished,
     /// Nothing: a CONNECT was read, which asks for a tunnel to there.
     Connects {
         address: Address,
-    },
-    /// Nothing: a response of code 101 was sent, and what follows on both sides is of another protocol.
-    Upgraded {
-        flow: Boxed<Flow>,
-        link: Boxed<Link>,
     },
     /// Nothing: the conversation has ended.
     Over,
 }
 
-/// What an answer is awaited to.
+/// What an answer is awaited to, by the stage that asked.
 #[derive(Drop)]
 pub enum Asked {
     /// The hook of the request's head; whether the client waits to send the body.
-    Head {
+    Idle {
         flow: Boxed<Flow>,
         expects: bool,
     },
     /// The hook of the whole request.
-    Body {
+    RequestBody {
         flow: Boxed<Flow>,
     },
     /// The dial of this server.
-    Dial {
+    Connection {
         flow: Boxed<Flow>,
         server: u32,
     },
     /// The hook of the response's head.
-    Answer {
+    ResponseHead {
         flow: Boxed<Flow>,
-        link: Boxed<Link>,
+        server: u32,
     },
     /// The hook of the whole response.
-    Returned {
+    ResponseBody {
         flow: Boxed<Flow>,
-        link: Boxed<Link>,
+        server: u32,
     },
     /// The hook of the head of a response that was given in place of the server's.
     GivenHead {
@@ -108,11 +105,11 @@ impl Asked {
         ensures { result ≡ asked_of self.now }
     {
         match self {
-            Asked::Head { flow, .. } => hook_of(flow, Hook::RequestHead),
-            Asked::Body { flow } => hook_of(flow, Hook::RequestBody),
-            Asked::Dial { server, .. } => Ask::Dial { server: *server },
-            Asked::Answer { flow, .. } => hook_of(flow, Hook::ResponseHead),
-            Asked::Returned { flow, .. } => hook_of(flow, Hook::ResponseBody),
+            Asked::Idle { flow, .. } => hook_of(flow, Hook::RequestHead),
+            Asked::RequestBody { flow } => hook_of(flow, Hook::RequestBody),
+            Asked::Connection { server, .. } => Ask::Dial { server: *server },
+            Asked::ResponseHead { flow, .. } => hook_of(flow, Hook::ResponseHead),
+            Asked::ResponseBody { flow, .. } => hook_of(flow, Hook::ResponseBody),
             Asked::GivenHead { flow } => hook_of(flow, Hook::ResponseHead),
             Asked::GivenBody { flow } => hook_of(flow, Hook::ResponseBody),
         }

@@ -1,47 +1,46 @@
-//! How much the parts of a stream keep.
-ghost use Rattle.std.specs.Prelude.{◌≡◌, ◌-◌, ◌^◌, min};
-ghost use Rattle.px_stream.specs.Kept.{asked_keeps, phase_keeps, ready_keeps};
+//! How much the parts of a stream keep, and what waits in them.
+ghost use Rattle.std.specs.Prelude.{◌≡◌, ◌-◌, ◌^◌, length, min};
+ghost use Rattle.px_stream.specs.Tells.{content_at, side_keeps, uses_side};
 
+use crate::link::Link;
 use crate::phase::{Asked, Phase, Wanted};
 
-/// How much a phase keeps.
-pub(crate) fn size_of_phase(phase: &Phase) -> usize
-    ensures { result ≡ min (phase_keeps phase.now) (2 ^ 64 - 1) }
+/// Whether the flow uses a server's side.
+pub(crate) fn uses_side(phase: &Phase) -> bool
+    ensures { result ≡ uses_side phase.now }
 {
     match phase {
-        Phase::Ready(ready) => size_of_ready(ready),
-        Phase::Asked(asked) => size_of_asked(asked),
+        Phase::Ready(Wanted::ResponseHead { .. }) => true,
+        Phase::Ready(Wanted::ResponseBody { .. }) => true,
+        Phase::Ready(Wanted::Upgraded { .. }) => true,
+        Phase::Asked(Asked::ResponseHead { .. }) => true,
+        Phase::Asked(Asked::ResponseBody { .. }) => true,
+        Phase::Ready(_) => false,
+        Phase::Asked(_) => false,
     }
 }
 
-fn size_of_ready(ready: &Wanted) -> usize
-    ensures { result ≡ min (ready_keeps ready.now) (2 ^ 64 - 1) }
+/// How long the content of a body is, as far as it has come.
+pub(crate) fn content_len(phase: &Phase) -> usize
+    ensures { result ≡ length (content_at phase.now) }
 {
-    match ready {
-        Wanted::Receiving { body, .. } => body.len(),
-        Wanted::Answering { link, .. } => link.responses.kept(),
-        Wanted::Returning { link, body, .. } => body.len().saturating_add(link.responses.kept()),
-        Wanted::Idle => 0,
-        Wanted::Dialling { .. } => 0,
-        Wanted::GivenHead { .. } => 0,
-        Wanted::GivenBody { .. } => 0,
-        Wanted::Finished => 0,
-        Wanted::Connects { .. } => 0,
-        Wanted::Upgraded { link, .. } => link.responses.kept(),
-        Wanted::Over => 0,
+    match phase {
+        Phase::Ready(Wanted::RequestBody { body, .. }) => body.len(),
+        Phase::Ready(Wanted::ResponseBody { body, .. }) => body.len(),
+        Phase::Ready(_) => 0,
+        Phase::Asked(_) => 0,
     }
 }
 
-fn size_of_asked(asked: &Asked) -> usize
-    ensures { result ≡ min (asked_keeps asked.now) (2 ^ 64 - 1) }
+/// How much the reader of the open side keeps, where it counts.
+pub(crate) fn side_size(counts: bool, side: &Option<Link>) -> usize
+    ensures { result ≡ min (side_keeps counts side.now) (2 ^ 64 - 1) }
 {
-    match asked {
-        Asked::Answer { link, .. } => link.responses.kept(),
-        Asked::Returned { link, .. } => link.responses.kept(),
-        Asked::Head { .. } => 0,
-        Asked::Body { .. } => 0,
-        Asked::Dial { .. } => 0,
-        Asked::GivenHead { .. } => 0,
-        Asked::GivenBody { .. } => 0,
+    if !counts {
+        return 0;
+    }
+    match side {
+        Some(link) => link.responses.kept(),
+        None => 0,
     }
 }

@@ -1,39 +1,36 @@
-//! One flow: the readers of both sides, and where the flow stands.
+//! One flow after the other: the readers of both sides, and where the present flow stands.
 //!
 //! Each event goes to the reader of its side, and then the flow looks once: where it finds an ask it waits, and where it
-//! finds the end it says what is owed there. A reply leads to what is looked for next.
+//! finds the end it says what is owed there. A reply leads to what is looked for next; where a flow is finished that is the next one's head.
 //!
-//! A parked side, which is connected and which no flow uses, is heard beside them and not read, until a request goes there, or another
-//! server is dialled.
-ghost use Rattle.std.specs.Prelude.{◌≡◌, ◌≤◌, ◌<◌, ◌+◌, ◌-◌, ◌^◌, List, [], false, None, IfOk, OnOk, min, option_map};
-ghost use Rattle.px_event.specs.Layer.{Move, Took, Replied, IsSound, Goes, AsksOnly, MayAnswer};
-ghost use Rattle.px_event.specs.declared.command.Command.{Command as GivenCommand};
+//! One server's side is open at most: the flow's own, or one that is parked, which is heard and not read, until a request goes there, or
+//! another server is dialled.
+ghost use Rattle.std.specs.Prelude.{◌≡◌, ◌≤◌, ◌<◌, ◌+◌, ◌-◌, ◌^◌, ℕ, List, [], ⊤, false, None, IfOk, OnOk, min, option_map};
+ghost use Rattle.px_event.specs.Chain.{Timed};
+ghost use Rattle.px_event.specs.Layer.{AsksOnly, MayAnswer};
+ghost use Rattle.px_event.specs.declared.event.Event.{Event as Heard};
 ghost use Rattle.px_read.specs.Reader.{before_all, request};
-ghost use Rattle.px_stream.specs.Anywhere.{Begins, HearsWaiting, IsNew, Reaches, ResumesAnywhere, Somewhere, TakesAnywhere};
-ghost use Rattle.px_stream.specs.GoingOn.{GoesOnWith, wanted_by};
-ghost use Rattle.px_stream.specs.Calls.{Answers, Hears, LooksOnce, MayHear, TakesEvent, TurnsTo};
-ghost use Rattle.px_chain.specs.Chain.{alone, look as look_at};
-ghost use Rattle.px_stream.specs.Kept.{stream_keeps};
-ghost use Rattle.px_stream.specs.Left.{flow_left, sequence_left};
-ghost use Rattle.px_stream.specs.Looking.{MayLook};
 ghost use Rattle.px_exchange.specs.Places.{terms_of};
-ghost use Rattle.px_stream.specs.Phases.{parked_at};
-ghost use Rattle.px_stream.specs.Rests.{LeavesRests, phase_flow, phase_rest};
-ghost use Rattle.px_stream.specs.Sequence.{IsSideBelow, Stands, StandsInSequence, asked_tunnel, is_end, is_idle, open_parked, outcome_at, outcome_in, ready_onward, requests_onward, seen_at, stage_at, upgraded_side};
-ghost use Rattle.px_chain.specs.Stages.{Stage};
-ghost use Rattle.px_stream.specs.Stands.{awaits, is_last, used_in};
-ghost use Rattle.px_stream.specs.Through.{IsDialling, dialled_flow, led_by, led_to, server_dialled};
-ghost use Rattle.px_stream.specs.Turns.{asked_leads, behind_asked, behind_ready};
-ghost use Rattle.px_stream.specs.declared.phase.Wanted.{Wanted as Looked};
+ghost use Rattle.px_exchange.specs.declared.terms.Terms.{Terms as Made};
+ghost use Rattle.px_chain.specs.Chain.{begin as first, look as look_at, parked_of};
+ghost use Rattle.px_chain.specs.Sights.{Standing, sight_over};
+ghost use Rattle.px_chain.specs.Stages.{At as Stood, busy, idle};
+ghost use Rattle.px_stream.specs.Heard.{SideAgrees};
+ghost use Rattle.px_stream.specs.Anywhere.{Begins, GoesOnWith, HearsWaiting, IsInSequence, IsNew, Reaches, ResumesAnywhere, Somewhere, TakesAnywhere, doing_by};
+ghost use Rattle.px_stream.specs.Rests.{LeavesRests};
+ghost use Rattle.px_stream.specs.Stands.{IsSome, awaited_in, awaits, is_last, stage_of, used_in};
+ghost use Rattle.px_stream.specs.Tells.{IsDialling, IsSideBelow, asked_tunnel, dialled_flow, is_end, is_idle, led_by, led_to, open_parked, outcome_at, outcome_in, phase_flow, sequence_left, server_dialled, side_rest, stream_keeps, upgraded_side, uses_side};
+ghost use Rattle.px_stream.specs.Turns.{Hears, LooksOnce, TurnsTo, is_dial, requests_behind, side_behind};
+ghost use Rattle.px_stream.specs.Looks.{MayLook};
 
-use crate::hearing::{hear, hear_server};
+use crate::at::{At, Parked};
+use crate::following::{follow_requests, follow_side, is_dial};
+use crate::hearing::hear;
 use crate::leaving::{enter, take_asked, take_looked};
-use crate::link::{Link, feed_parked, open_number, parked_server, parked_side};
+use crate::link::{self, Link};
 use crate::looking::look;
-use crate::numbers::Numbers;
 use crate::phase::{Asked, Phase, Wanted};
-use crate::rests::{dialled_in, rests_of};
-use crate::sizes::size_of_phase;
+use crate::sizes::{content_len, side_size, uses_side};
 use crate::turning::turn;
 use px_event::{Ask, Command, Event, Reply, Rests};
 use px_exchange::ending::Used;
@@ -44,76 +41,99 @@ use px_message::{Address, Flow, FlowId};
 use px_read::MessageReader;
 use px_text::{Bytes, NoMemory};
 use std::alloc::Global;
-use std::mem;
 
-/// One flow of a conversation.
+/// The flows of a conversation, one after the other.
 #[derive(Drop)]
 pub struct Stream {
     alloc: Global,
     terms: Terms,
-    numbers: Numbers,
+    at: At,
     requests: MessageReader,
     client_closed: bool,
-    parked: Option<Link>,
+    side: Option<Link>,
     phase: Phase,
 }
 
 impl Stream {
-    /// A flow of this number, of a client there, whose requests go to this place. Its server is dialled as the one of
-    /// number `next_server`, unless the place has a side that is connected, which then has a lower number, and the request goes there.
+    /// The flows of a client there, whose requests go to this place. The first one has this number, and the next server that is dialled is the
+    /// one of number `next_server`. Where a side of the place is connected already, it is parked, and its number is below that one.
     ///
-    /// It stands for itself by no moves and has given nothing, alone and as the first of flows in sequence.
+    /// It stands where flows in sequence begin, and awaits nothing.
     pub fn new(
         alloc: Global,
         id: FlowId,
         client: Option<Address>,
         place: Place,
         next_server: u32,
-    ) -> Stream
+    ) -> Result<Stream, NoMemory>
         requires few { id.index < 1000000 }
         requires side { IsSideBelow place next_server }
-        ensures stands { (onward : Stage → Stage) → Stands onward result result [] [] }
-        ensures in_sequence { next_server ≤ id.index + 1 → StandsInSequence result result [] [] }
-        ensures terms { result.terms ≡ terms_of id.conv client place }
-        ensures numbers { result.numbers ≡ record { flow = id.index; server = next_server } }
-        ensures parked { result.parked ≡ parked_at place }
-        ensures new { IsNew result }
-        ensures free { awaits result ≡ None }
+        ensures stands { IfOk result (λ made. (ahead : ℕ) → next_server ≤ id.index + ahead → ahead ≤ 1 →
+            IsInSequence made.terms ahead made (first (idle made.at)) []) }
+        ensures terms { IfOk result (λ made. made.terms ≡ terms_of id.conv client place) }
+        ensures at { IfOk result (λ made. made.at ≡ record { flow = id.index; dials = next_server; parked = parked_of place }) }
+        ensures new { IfOk result (λ made. IsNew made) }
+        ensures free { IfOk result (λ made. awaits made ≡ None) }
     {
-        let parked = parked_side(alloc, &place);
-        Stream {
+        let parked = parked_of(&place)?;
+        let side = link::unheard(alloc, &parked);
+        Ok(Stream {
             alloc,
             terms: Terms {
                 conv: id.conv,
                 client,
                 place,
             },
-            numbers: Numbers {
+            at: At {
                 flow: id.index,
-                server: next_server,
+                dials: next_server,
+                parked,
             },
             requests: MessageReader::request(alloc),
             client_closed: false,
-            parked,
+            side,
             phase: Phase::Ready(Wanted::Idle),
-        }
+        })
     }
 
-    /// What became of the flow: it is finished and the client's connection goes on; a CONNECT was read in its place; another
-    /// protocol follows it; the conversation has ended; or it goes on.
+    /// What became of it: a CONNECT was read in place of a flow; another protocol follows the flow; the conversation has ended; or it goes
+    /// on, since behind a finished flow the next one begins.
     pub fn outcome(&self) -> Outcome
         ensures phase { result ≡ outcome_in self.now.phase }
         ensures ended { is_last self.now.phase ≡ is_end result }
-        ensures of_walk { (onward : Stage → Stage) (made : Stream) (moves : List Move) (given : List GivenCommand) → Stands onward made self.now moves given →
-            result ≡ outcome_at made.terms.place (look_at made.terms (stage_at onward made moves) (seen_at onward made moves)) (stage_at onward made moves) (seen_at onward made moves) }
+        ensures of_walk { (made : Made) (ahead : ℕ) (place : Standing) (prefix : List (Timed Heard)) → IsInSequence made ahead self.now place prefix →
+            result ≡ outcome_at made.place (look_at made place.stage (sight_over place prefix)) place.stage (sight_over place prefix) }
     {
         match &self.phase {
-            Phase::Ready(Wanted::Finished) => Outcome::Next,
             Phase::Ready(Wanted::Connects { .. }) => Outcome::Connects,
             Phase::Ready(Wanted::Upgraded { .. }) => Outcome::Upgraded,
             Phase::Ready(Wanted::Over) => Outcome::Over,
             Phase::Ready(_) => Outcome::Going,
             Phase::Asked(_) => Outcome::Going,
+        }
+    }
+
+    /// Whether nothing more will come of it: exactly where its outcome is not `Going`.
+    pub fn ended(&self) -> bool
+        ensures { result ≡ is_last self.now.phase }
+    {
+        match &self.phase {
+            Phase::Ready(Wanted::Connects { .. }) => true,
+            Phase::Ready(Wanted::Upgraded { .. }) => true,
+            Phase::Ready(Wanted::Over) => true,
+            Phase::Ready(_) => false,
+            Phase::Asked(_) => false,
+        }
+    }
+
+    /// Whether the head of a request is awaited: the flow before is finished.
+    pub fn is_idle(&self) -> bool
+        ensures { result ≡ is_idle self.now.phase }
+    {
+        match &self.phase {
+            Phase::Ready(Wanted::Idle) => true,
+            Phase::Ready(_) => false,
+            Phase::Asked(_) => false,
         }
     }
 
@@ -129,10 +149,13 @@ impl Stream {
 
     /// The server's side on which another protocol follows: exactly where the outcome is `Upgraded`.
     pub fn upgraded(&self) -> Option<Used>
-        ensures { result ≡ upgraded_side self.now.phase }
+        ensures { result ≡ upgraded_side self.now.phase self.now.side }
     {
         match &self.phase {
-            Phase::Ready(Wanted::Upgraded { link, .. }) => Some(link.used()),
+            Phase::Ready(Wanted::Upgraded { server, .. }) => Some(Used::ByServer {
+                number: *server,
+                closed: link::is_closed(&self.side),
+            }),
             _ => None,
         }
     }
@@ -144,11 +167,11 @@ impl Stream {
         &self.terms.place
     }
 
-    /// The numbers of the next flow and of the next server.
-    pub fn numbers(&self) -> Numbers
-        ensures { result ≡ self.now.numbers }
+    /// The number of the present flow, or of the next one where none has begun, and of the next server.
+    pub fn at(&self) -> &At
+        ensures { result.now ≡ self.now.at }
     {
-        self.numbers
+        &self.at
     }
 
     /// Whether the client has closed.
@@ -160,9 +183,27 @@ impl Stream {
 
     /// The number of the parked side, if there is one and its server has not closed.
     pub fn parked(&self) -> Option<u32>
-        ensures { result ≡ open_parked self.now.parked }
+        ensures { result ≡ open_parked self.now.at.parked self.now.side }
     {
-        open_number(&self.parked)
+        open_parked(&self.at.parked, &self.side)
+    }
+
+    /// What is awaited.
+    pub fn waiting(&self) -> Option<Ask>
+        ensures { result ≡ awaits self.now }
+    {
+        self.phase.waiting()
+    }
+
+    /// How many bytes it keeps, or 2^64 - 1 where that is more: what its readers keep, and the content that has come of the
+    /// body that it reads. The flow does not count, nor do bytes that wait behind a message, or of a side that is parked.
+    pub fn kept(&self) -> usize
+        ensures { result ≡ min (stream_keeps self.now) (2 ^ 64 - 1) }
+    {
+        let side = side_size(uses_side(&self.phase), &self.side);
+        self.requests
+            .kept()
+            .saturating_add(content_len(&self.phase).saturating_add(side))
     }
 
     /// Hears what the client sent behind what others read of it, before the stream was made, and whether it has closed, and what the
@@ -185,7 +226,7 @@ impl Stream {
     {
         self.client_closed = closed;
         self.requests.feed(rest)?;
-        feed_parked(&mut self.parked, waiting)?;
+        link::feed(&mut self.side, waiting)?;
         self.advance(moment, Wanted::Idle, out)
     }
 
@@ -207,142 +248,45 @@ impl Stream {
         self.advance(moment, wanted_for(flow), out)
     }
 
-    /// Whether the head of a request is awaited: where flows follow one another, the one before is finished.
-    pub fn is_idle(&self) -> bool
-        ensures { result ≡ is_idle self.now.phase }
-    {
-        match &self.phase {
-            Phase::Ready(Wanted::Idle) => true,
-            Phase::Ready(_) => false,
-            Phase::Asked(_) => false,
-        }
-    }
-
-    // Takes an event, where the flow is alone.
-    pub(crate) fn take_alone(
-        &mut self,
-        moment: u64,
-        event: &Event,
-        out: &mut Vec<Command>,
-    ) -> Result<(), NoMemory>
-        requires sound { IsSound (Stands alone) self.old }
-        requires free { awaits self.old ≡ None }
-        ensures goes { OnOk result (Goes (Stands alone) self.old self.new (Took moment event.now) out.old.items out.new.items) }
-        ensures sound { OnOk result (IsSound (Stands alone) self.new) }
-        ensures asks { OnOk result (AsksOnly (awaits self.new) out.old.items out.new.items) }
-        ensures left { OnOk result (flow_left self.new ≤ flow_left self.old) }
-    {
-        self.take_event(moment, event, out)
-    }
-
-    /// Takes an event where flows follow one another, wherever it stands: also where something else came before them in the
-    /// same conversation.
+    /// Takes an event, wherever it stands: also where something else came before its flows in the same conversation.
     pub fn take_anywhere(
         &mut self,
         moment: u64,
-        event: Event,
+        event: &Event,
         out: &mut Vec<Command>,
     ) -> Result<(), NoMemory>
         requires somewhere { Somewhere self.old }
         requires free { awaits self.old ≡ None }
-        ensures takes { OnOk result (TakesAnywhere self.old self.new moment event out.old.items out.new.items) }
+        ensures takes { OnOk result (TakesAnywhere self.old self.new moment event.now out.old.items out.new.items) }
         ensures asks { OnOk result (AsksOnly (awaits self.new) out.old.items out.new.items) }
         ensures left { OnOk result (sequence_left self.new ≤ sequence_left self.old) }
     {
-        self.take_event(moment, &event, out)
-    }
-
-    /// Takes an event, as `take`, where flows follow one another.
-    pub fn take_in_sequence(
-        &mut self,
-        moment: u64,
-        event: Event,
-        out: &mut Vec<Command>,
-    ) -> Result<(), NoMemory>
-        requires sound { IsSound StandsInSequence self.old }
-        requires free { awaits self.old ≡ None }
-        ensures goes { OnOk result (Goes StandsInSequence self.old self.new (Took moment event) out.old.items out.new.items) }
-        ensures sound { OnOk result (IsSound StandsInSequence self.new) }
-        ensures asks { OnOk result (AsksOnly (awaits self.new) out.old.items out.new.items) }
-        ensures left { OnOk result (sequence_left self.new ≤ sequence_left self.old) }
-    {
-        self.take_anywhere(moment, event, out)
-    }
-
-    /// What is awaited.
-    pub(crate) fn awaited(&self) -> Option<Ask>
-        ensures { result ≡ awaits self.now }
-    {
-        self.phase.waiting()
-    }
-
-    /// How many bytes it keeps, or 2^64 - 1 where that is more: what its readers keep, and the content that has come of the
-    /// body that it reads. The flow does not count, nor do bytes that wait behind a message, or of a side that is parked.
-    pub(crate) fn size(&self) -> usize
-        ensures { result ≡ min (stream_keeps self.now) (2 ^ 64 - 1) }
-    {
-        self.requests
-            .kept()
-            .saturating_add(size_of_phase(&self.phase))
-    }
-
-    // Takes an event, where no answer is awaited.
-    fn take_event(
-        &mut self,
-        moment: u64,
-        event: &Event,
-        out: &mut Vec<Command>,
-    ) -> Result<(), NoMemory>
-        requires free { awaits self.old ≡ None }
-        requires may_hear { (looked : Looked) → self.old.phase ≡ Phase.Ready looked → is_last (Phase.Ready looked) ≡ false → MayHear event.now self.old.requests self.old.parked looked }
-        ensures { OnOk result (TakesEvent self.old self.new moment event.now out.old.items out.new.items) }
-    {
-        if self.has_ended() {
+        if self.ended() {
             return Ok(());
         }
         let ready = take_looked(&mut self.phase);
-        self.take_ready(moment, ready, event, out)
-    }
-
-    /// Whether nothing more will come of it: exactly where its outcome is not `Going`.
-    pub(crate) fn has_ended(&self) -> bool
-        ensures { result ≡ is_last self.now.phase }
-    {
-        match &self.phase {
-            Phase::Ready(Wanted::Finished) => true,
-            Phase::Ready(Wanted::Connects { .. }) => true,
-            Phase::Ready(Wanted::Upgraded { .. }) => true,
-            Phase::Ready(Wanted::Over) => true,
-            Phase::Ready(_) => false,
-            Phase::Asked(_) => false,
-        }
-    }
-
-    // Its readers hear the event, and it looks.
-    fn take_ready(
-        &mut self,
-        moment: u64,
-        ready: Wanted,
-        event: &Event,
-        out: &mut Vec<Command>,
-    ) -> Result<(), NoMemory>
-        requires { MayHear event.now self.old.requests self.old.parked ready }
-        ensures { OnOk result (Hears self.old self.new moment event.now ready out.old.items out.new.items) }
-    {
-        let mut ready = ready;
-        match hear(
-            &mut self.requests,
-            &mut self.client_closed,
-            &mut self.parked,
-            &mut ready,
-            event,
-        ) {
+        match self.hear(event) {
             Ok(()) => self.advance(moment, ready, out),
             Err(NoMemory) => {
                 drop(ready);
                 Err(NoMemory)
             }
         }
+    }
+
+    // Its readers hear the event.
+    fn hear(&mut self, event: &Event) -> Result<(), NoMemory>
+        requires open_still { self.old.requests.closed ≡ false }
+        requires agrees { SideAgrees self.old.side }
+        ensures hears { OnOk result (Hears self.old self.new event.now) }
+        ensures phase { self.new.phase ≡ self.old.phase }
+    {
+        hear(
+            &mut self.requests,
+            &mut self.client_closed,
+            &mut self.side,
+            event,
+        )
     }
 
     // Looks, where no answer is awaited.
@@ -352,15 +296,16 @@ impl Stream {
         ready: Wanted,
         out: &mut Vec<Command>,
     ) -> Result<(), NoMemory>
-        requires { MayLook ready self.old.requests }
+        requires { MayLook ready self.old.requests self.old.side }
         ensures { OnOk result (LooksOnce self.old self.new moment ready out.old.items out.new.items) }
     {
         let now = self.now(moment);
         let phase = look(
             &self.terms,
             now,
-            self.numbers,
+            &self.at,
             &mut self.requests,
+            &mut self.side,
             ready,
             out,
         )?;
@@ -371,35 +316,17 @@ impl Stream {
     fn now(&self, moment: u64) -> Now
         ensures moment { result.moment ≡ moment }
         ensures client { result.client_closed ≡ self.now.client_closed }
-        ensures parked { result.parked ≡ used_in self.now.parked }
+        ensures parked { result.parked ≡ used_in self.now.side }
     {
         Now {
             alloc: self.alloc,
             moment,
             client_closed: self.client_closed,
-            parked: parked_server(&self.parked),
+            parked: link::used(&self.side),
         }
     }
 
-    // Takes the reply to what is awaited, where the flow is alone.
-    pub(crate) fn resume_alone(
-        &mut self,
-        moment: u64,
-        reply: Reply,
-        out: &mut Vec<Command>,
-    ) -> Result<(), NoMemory>
-        requires sound { IsSound (Stands alone) self.old }
-        requires answers { MayAnswer (awaits self.old) reply }
-        ensures goes { OnOk result (Goes (Stands alone) self.old self.new (Replied moment reply) out.old.items out.new.items) }
-        ensures sound { OnOk result (IsSound (Stands alone) self.new) }
-        ensures asks { OnOk result (AsksOnly (awaits self.new) out.old.items out.new.items) }
-        ensures left { OnOk result (flow_left self.new < flow_left self.old) }
-    {
-        let asked = take_asked(&mut self.phase);
-        self.answer(moment, asked, reply, out)
-    }
-
-    /// Takes the reply to what is awaited where flows follow one another, wherever it stands.
+    /// Takes the reply to what is awaited, wherever it stands.
     pub fn resume_anywhere(
         &mut self,
         moment: u64,
@@ -413,7 +340,39 @@ impl Stream {
         ensures left { OnOk result (sequence_left self.new < sequence_left self.old) }
     {
         let asked = take_asked(&mut self.phase);
-        self.answer_in_sequence(moment, asked, reply, out)
+        let ready = self.turn(moment, asked, reply, out)?;
+        self.advance(moment, ready, out)
+    }
+
+    // Takes the answer to what was asked: its readers are then where what follows is looked for.
+    fn turn(
+        &mut self,
+        moment: u64,
+        asked: Asked,
+        reply: Reply,
+        out: &mut Vec<Command>,
+    ) -> Result<Wanted, NoMemory>
+        requires few { self.old.at.flow < 1000000 }
+        requires dials { self.old.at.dials < 4294967295 }
+        ensures { IfOk result (λ next. TurnsTo self.old self.new moment reply asked next out.old.items out.new.items) }
+    {
+        let now = self.now(moment);
+        let dialled = is_dial(&asked);
+        let ready = turn(&self.terms.place, now, &mut self.at, asked, reply, out)?;
+        self.follow(dialled, ready)
+    }
+
+    // Its readers follow to what is looked for.
+    fn follow(&mut self, dialled: bool, ready: Wanted) -> Result<Wanted, NoMemory>
+        ensures next { IfOk result (λ next. next ≡ ready) }
+        ensures terms { OnOk result (self.new.terms ≡ self.old.terms) }
+        ensures at { OnOk result (self.new.at ≡ self.old.at) }
+        ensures client { OnOk result (self.new.client_closed ≡ self.old.client_closed) }
+        ensures requests { OnOk result (self.new.requests ≡ requests_behind (stage_of self.old.at ready) self.old.requests) }
+        ensures side { OnOk result (self.new.side ≡ side_behind dialled (stage_of self.old.at ready) self.old.side) }
+    {
+        let next = follow_requests(self.alloc, &self.at, &mut self.requests, ready)?;
+        follow_side(self.alloc, dialled, &self.at, &mut self.side, next)
     }
 
     /// Where the server of the flow is, while its dial is awaited and the place is reached through another proxy: that proxy is
@@ -434,23 +393,14 @@ impl Stream {
         requires somewhere { Somewhere self.old }
         ensures hears { OnOk result (HearsWaiting self.old self.new event.now) }
         ensures phase { OnOk result (self.new.phase ≡ self.old.phase) }
-        ensures numbers { OnOk result (self.new.numbers ≡ self.old.numbers) }
+        ensures at { OnOk result (self.new.at ≡ self.old.at) }
         ensures terms { OnOk result (self.new.terms ≡ self.old.terms) }
         ensures left { OnOk result (sequence_left self.new ≡ sequence_left self.old) }
     {
         if self.client_closed {
             return Ok(());
         }
-        let mut looked = Wanted::Over;
-        let heard = hear(
-            &mut self.requests,
-            &mut self.client_closed,
-            &mut self.parked,
-            &mut looked,
-            event,
-        );
-        drop(looked);
-        heard
+        self.hear(event)
     }
 
     /// The way to the server whose dial is awaited stands: the request goes to it, and this is what it has sent already. Then it
@@ -467,131 +417,45 @@ impl Stream {
         ensures asks { OnOk result (AsksOnly (awaits self.new) out.old.items out.new.items) }
         ensures left { OnOk result (sequence_left self.new < sequence_left self.old) }
     {
-        let server = self.numbers.server;
         let asked = take_asked(&mut self.phase);
-        let mut turned = self.turn(moment, asked, Reply::Dialled, out)?;
-        match hear_server(&mut turned, server, rest) {
-            Ok(()) => self.advance(moment, turned, out),
+        let ready = self.turn(moment, asked, Reply::Dialled, out)?;
+        match link::feed(&mut self.side, rest) {
+            Ok(()) => self.advance(moment, ready, out),
             Err(NoMemory) => {
-                drop(turned);
+                drop(ready);
                 Err(NoMemory)
             }
         }
     }
 
-    /// Takes the reply to what is awaited, as `resume`; where the flow is finished, the next one begins with what the
-    /// client sent behind it.
-    pub fn resume_in_sequence(
-        &mut self,
-        moment: u64,
-        reply: Reply,
-        out: &mut Vec<Command>,
-    ) -> Result<(), NoMemory>
-        requires sound { IsSound StandsInSequence self.old }
-        requires answers { MayAnswer (awaits self.old) reply }
-        ensures goes { OnOk result (Goes StandsInSequence self.old self.new (Replied moment reply) out.old.items out.new.items) }
-        ensures sound { OnOk result (IsSound StandsInSequence self.new) }
-        ensures asks { OnOk result (AsksOnly (awaits self.new) out.old.items out.new.items) }
-        ensures left { OnOk result (sequence_left self.new < sequence_left self.old) }
-    {
-        self.resume_anywhere(moment, reply, out)
-    }
-
-    fn answer_in_sequence(
-        &mut self,
-        moment: u64,
-        asked: Asked,
-        reply: Reply,
-        out: &mut Vec<Command>,
-    ) -> Result<(), NoMemory>
-        requires { MayLook (asked_leads self.old.terms.place self.old.numbers.flow self.old.parked asked reply) self.old.requests }
-        ensures { OnOk result (Answers self.old self.new moment reply asked (ready_onward (asked_leads self.old.terms.place self.old.numbers.flow self.old.parked asked reply))
-            (requests_onward (asked_leads self.old.terms.place self.old.numbers.flow self.old.parked asked reply) self.old.requests) out.old.items out.new.items) }
-    {
-        let turned = self.turn(moment, asked, reply, out)?;
-        let ready = self.go_onward(turned)?;
-        self.advance(moment, ready, out)
-    }
-
-    fn answer(
-        &mut self,
-        moment: u64,
-        asked: Asked,
-        reply: Reply,
-        out: &mut Vec<Command>,
-    ) -> Result<(), NoMemory>
-        requires { MayLook (asked_leads self.old.terms.place self.old.numbers.flow self.old.parked asked reply) self.old.requests }
-        ensures { OnOk result (Answers self.old self.new moment reply asked (asked_leads self.old.terms.place self.old.numbers.flow self.old.parked asked reply) self.old.requests out.old.items out.new.items) }
-    {
-        let turned = self.turn(moment, asked, reply, out)?;
-        self.advance(moment, turned, out)
-    }
-
-    // Takes the answer to what was asked, and counts.
-    fn turn(
-        &mut self,
-        moment: u64,
-        asked: Asked,
-        reply: Reply,
-        out: &mut Vec<Command>,
-    ) -> Result<Wanted, NoMemory>
-        ensures { IfOk result (λ next. TurnsTo self.old self.new moment reply asked next out.old.items out.new.items) }
-    {
-        let now = self.now(moment);
-        let index = self.numbers.flow;
-        self.numbers = count_server(self.numbers, &asked);
-        let ready = turn(
-            &self.terms.place,
-            now,
-            index,
-            &mut self.parked,
-            asked,
-            reply,
-            out,
-        )?;
-        self.numbers = count_flow(self.numbers, &ready);
-        Ok(ready)
-    }
-
-    // Where a flow is finished the next one begins: the client's bytes behind it are read as its request.
-    fn go_onward(&mut self, ready: Wanted) -> Result<Wanted, NoMemory>
-        ensures terms { OnOk result (self.new.terms ≡ self.old.terms) }
-        ensures numbers { OnOk result (self.new.numbers ≡ self.old.numbers) }
-        ensures client { OnOk result (self.new.client_closed ≡ self.old.client_closed) }
-        ensures parked { OnOk result (self.new.parked ≡ self.old.parked) }
-        ensures requests { OnOk result (self.new.requests ≡ requests_onward ready self.old.requests) }
-        ensures ready { IfOk result (λ next. next ≡ ready_onward ready) }
-    {
-        match ready {
-            Wanted::Finished => {
-                begin_again(self.alloc, &mut self.requests)?;
-                Ok(Wanted::Idle)
-            }
-            other => Ok(other),
-        }
-    }
-
-    /// The bytes that the flow did not use, of the client and of its server's side, for whoever goes on; and the flow, exactly
+    /// The bytes that it did not use, of the client and of the present flow's server side, for whoever goes on; and the flow, exactly
     /// where the outcome is `Upgraded`: another protocol follows it on the same connections.
     ///
     /// Behind a whole message they are exactly the side's bytes behind it, also behind a CONNECT and behind a response of code
-    /// 101; while one is read, those from where its reader stands. Of the server there are none where the flow has no side of it,
-    /// or is finished.
+    /// 101; while one is read, those from where its reader stands. Of the server there are none where the flow has no side of it.
     pub fn into_rests(self) -> Result<(Rests, Option<Flow>), NoMemory>
         ensures client { IfOk result (λ left. left.0.client ≡ self.requests.rest) }
-        ensures server { IfOk result (λ left. left.0.server ≡ phase_rest self.phase) }
+        ensures server { IfOk result (λ left. left.0.server ≡ side_rest (uses_side self.phase) self.side) }
         ensures flow { IfOk result (λ left. left.1 ≡ phase_flow self.phase) }
-        ensures behind { (onward : Stage → Stage) (made : Stream) (moves : List Move) (given : List GivenCommand) → Stands onward made self moves given →
-            IfOk result (λ left. LeavesRests made.terms.place (look_at made.terms (stage_at onward made moves) (seen_at onward made moves)) (stage_at onward made moves)
-            (seen_at onward made moves) left.0.client left.0.server left.1) }
+        ensures behind { (made : Made) (ahead : ℕ) (place : Standing) (prefix : List (Timed Heard)) → IsInSequence made ahead self place prefix →
+            IfOk result (λ left. LeavesRests made.place (look_at made place.stage (sight_over place prefix)) place.stage (sight_over place prefix)
+            left.0.client left.0.server left.1) }
     {
         let Stream {
             requests,
+            side,
             phase,
             ..
         } = self;
-        let (rests, flow) = rests_of(requests, phase)?;
-        Ok((rests, flow))
+        let uses = uses_side(&phase);
+        let flow = upgraded_flow(phase);
+        match link::into_rest(side, uses) {
+            Ok(server) => rests_with(requests, server, flow),
+            Err(NoMemory) => {
+                drop(flow);
+                Err(NoMemory)
+            }
+        }
     }
 
     /// The flow whose server is dialled, where the answer to that is awaited, for whoever ends it in its place; all else is let go of.
@@ -603,14 +467,49 @@ impl Stream {
     }
 }
 
+// The side of its place that is connected, if one is.
+fn parked_of(place: &Place) -> Result<Option<Parked>, NoMemory>
+    ensures { IfOk result (λ parked. parked ≡ parked_of place.now) }
+{
+    match place {
+        Place::Fixed {
+            address,
+            side: Some(server),
+            ..
+        } => Ok(Some(Parked {
+            server: *server,
+            address: address.try_clone()?,
+        })),
+        _ => Ok(None),
+    }
+}
+
+// The number of the parked side, if one is and its server has not closed.
+fn open_parked(parked: &Option<Parked>, side: &Option<Link>) -> Option<u32>
+    ensures { result ≡ open_parked parked.now side.now }
+{
+    let Some(parked) = parked else {
+        return None;
+    };
+    match side {
+        Some(link) => {
+            if link.closed {
+                return None;
+            }
+            Some(parked.server)
+        }
+        None => None,
+    }
+}
+
 // What is looked for where a flow's request is whole and was asked about.
 fn wanted_for(flow: Boxed<Flow>) -> Wanted
-    ensures { result ≡ wanted_by flow.response flow }
+    ensures { (at : Stood) → stage_of at result ≡ busy at flow (doing_by flow.response) }
 {
     if flow.response.is_some() {
         Wanted::GivenHead { flow }
     } else {
-        Wanted::Dialling { flow }
+        Wanted::Connection { flow }
     }
 }
 
@@ -629,56 +528,55 @@ fn server_dialled(phase: &Phase) -> Result<Option<Address>, NoMemory>
     ensures { IfOk result (λ to. to ≡ server_dialled phase.now) }
 {
     match phase {
-        Phase::Asked(Asked::Dial { flow, .. }) => Ok(Some(address_of(flow)?)),
+        Phase::Asked(Asked::Connection { flow, .. }) => Ok(Some(address_of(flow)?)),
         _ => Ok(None),
     }
 }
 
-// A server's number is used by its dial.
-fn count_server(numbers: Numbers, asked: &Asked) -> Numbers
-    ensures { result ≡ behind_asked numbers asked.now }
+// The flow whose server is dialled.
+fn dialled_in(phase: Phase) -> Option<Boxed<Flow>>
+    ensures { result ≡ dialled_flow phase }
 {
-    match asked {
-        Asked::Dial { .. } => Numbers {
-            flow: numbers.flow,
-            server: numbers.server.saturating_add(1),
-        },
-        Asked::Head { .. } => numbers,
-        Asked::Body { .. } => numbers,
-        Asked::Answer { .. } => numbers,
-        Asked::Returned { .. } => numbers,
-        Asked::GivenHead { .. } => numbers,
-        Asked::GivenBody { .. } => numbers,
+    match phase {
+        Phase::Asked(Asked::Connection { flow, .. }) => Some(flow),
+        other => {
+            drop(other);
+            None
+        }
     }
 }
 
-// And a flow's by its end.
-fn count_flow(numbers: Numbers, ready: &Wanted) -> Numbers
-    ensures { result ≡ behind_ready numbers ready.now }
+// The flow that another protocol follows.
+fn upgraded_flow(phase: Phase) -> Option<Boxed<Flow>>
+    ensures { result ≡ phase_flow phase }
 {
-    match ready {
-        Wanted::Finished => Numbers {
-            flow: numbers.flow.saturating_add(1),
-            server: numbers.server,
-        },
-        Wanted::Idle => numbers,
-        Wanted::Receiving { .. } => numbers,
-        Wanted::Dialling { .. } => numbers,
-        Wanted::Answering { .. } => numbers,
-        Wanted::Returning { .. } => numbers,
-        Wanted::GivenHead { .. } => numbers,
-        Wanted::GivenBody { .. } => numbers,
-        Wanted::Connects { .. } => numbers,
-        Wanted::Upgraded { .. } => numbers,
-        Wanted::Over => numbers,
+    match phase {
+        Phase::Ready(Wanted::Upgraded { flow, .. }) => Some(flow),
+        other => {
+            drop(other);
+            None
+        }
     }
 }
 
-// The next request is read, of what was kept behind the one before.
-fn begin_again(alloc: Global, requests: &mut MessageReader) -> Result<(), NoMemory>
-    ensures { OnOk result (requests.new ≡ before_all request requests.old.rest false) }
+fn rests_with(
+    requests: MessageReader,
+    server: Bytes,
+    flow: Option<Boxed<Flow>>,
+) -> Result<(Rests, Option<Flow>), NoMemory>
+    ensures client { IfOk result (λ left. left.0.client ≡ requests.rest) }
+    ensures server { IfOk result (λ left. left.0.server ≡ server) }
+    ensures flow { IfOk result (λ left. left.1 ≡ flow) }
 {
-    let next = MessageReader::request(alloc);
-    let rest = mem::replace(requests, next).into_rest()?;
-    requests.feed(&rest)
+    let client = requests.into_rest()?;
+    Ok((Rests { client, server }, out_of_place(flow)))
+}
+
+fn out_of_place(flow: Option<Boxed<Flow>>) -> Option<Flow>
+    ensures { result ≡ flow }
+{
+    match flow {
+        Some(flow) => Some(flow.into_inner()),
+        None => None,
+    }
 }

@@ -1,20 +1,16 @@
 //! What the answer to an ask leads to.
-ghost use Rattle.std.specs.Prelude.{◌≡◌, ◌++◌, ◌==◌, ◌∷◌, [], None, Some, IfOk, OnOk};
+ghost use Rattle.std.specs.Prelude.{◌≡◌, ◌<◌, ◌+◌, ◌++◌, ◌==◌, [], None, Some, IfOk, OnOk};
 ghost use Rattle.px_exchange.specs.Dials.{connected_owes, dial_owes};
-ghost use Rattle.px_event.specs.declared.command.Command.TheVariants as commands;
-ghost use Rattle.px_event.specs.declared.side.Side.TheVariants.{Client as ToClient};
-ghost use Rattle.px_exchange.specs.Texts.{returned_text as returned};
-ghost use Rattle.px_chain.specs.Chain.{finish as finishes, finish_by, killed as kills_flow, reached, turn_taken_answer, turn_taken_given, turn_taken_returned, turn_taken_whole};
-ghost use Rattle.px_exchange.specs.Endings.{connection_goes_on};
-ghost use Rattle.px_stream.specs.Phases.{behind_dial, behind_flow, behind_given_head, behind_request, behind_request_head, behind_response, behind_response_head, behind_whole, connected, goes_home, goes_on_to, link_home, no_side, numbered, upgrades_by};
-ghost use Rattle.px_stream.specs.Turns.{answer_leads, answer_owes, asked_leads, asked_owes, behind_parked, given_leads, given_owes, head_owes, read_whole_leads, read_whole_owes, request_owes, request_parks, request_to, unless_taken, whole_leads, whole_owes};
-ghost use Rattle.px_stream.specs.Stands.{used_in};
 ghost use Rattle.px_exchange.specs.Replies.{taken_at_body_of, taken_at_head_of, taken_at_request_body, taken_at_request_head};
+ghost use Rattle.px_chain.specs.Chain.{behind_flow, dial_leads, finish as finishes, finish_by, goes_on_by, killed, parked_for, reached, sequence, turn_taken_answer, turn_taken_body, turn_taken_given, turn_taken_head, turn_taken_returned, turn_taken_whole, upgrade as upgrades};
+ghost use Rattle.px_chain.specs.Sights.{Sight, server_parked};
+ghost use Rattle.px_chain.specs.Stages.{unparked};
+ghost use Rattle.px_stream.specs.Stands.{content_in, stage_of};
+ghost use Rattle.px_stream.specs.Turns.{Shows, asked_turn, taken_turn};
 
-use crate::link::Link;
+use crate::at::{At, Parked};
 use crate::phase::{Asked, Wanted};
 use px_event::{Command, Reply, Side};
-use px_exchange::asked::is_head;
 use px_exchange::content::Content;
 use px_exchange::ending::{Used, end_by_fault, end_early, finish, settled};
 use px_exchange::flows::{self, server_for};
@@ -28,40 +24,32 @@ use px_exchange::{Boxed, Place};
 use px_message::{Flow, Request, Response, Shared};
 use px_text::NoMemory;
 
-/// Takes the answer to what was asked of the flow of this number, whose requests go to this place, where this side may be parked.
+/// Takes the answer to what was asked at this place of a conversation, whose requests go there.
 pub fn turn(
     place: &Place,
     now: Now,
-    index: u32,
-    parked: &mut Option<Link>,
+    at: &mut At,
     asked: Asked,
     reply: Reply,
     out: &mut Vec<Command>,
 ) -> Result<Wanted, NoMemory>
-    requires parked { now.parked ≡ used_in parked.old }
-    ensures gives { OnOk result (out.new.items ≡ out.old.items ++ asked_owes place.now index parked.old asked reply now.moment now.client_closed) }
-    ensures ready { IfOk result (λ next. next ≡ asked_leads place.now index parked.old asked reply) }
-    ensures parked { OnOk result (parked.new ≡ behind_parked place.now asked reply parked.old) }
+    requires few { at.old.flow < 1000000 }
+    requires dials { at.old.dials < 4294967295 }
+    ensures gives { (seen : Sight) → Shows at.old asked now.parked now.client_closed seen →
+        OnOk result (out.new.items ≡ out.old.items ++ (asked_turn place.now at.old asked seen now.parked now.client_closed (record { moment = now.moment; value = reply })).owed) }
+    ensures leads { (seen : Sight) → Shows at.old asked now.parked now.client_closed seen →
+        IfOk result (λ next. stage_of at.new next ≡ sequence (asked_turn place.now at.old asked seen now.parked now.client_closed (record { moment = now.moment; value = reply })).stage) }
+    ensures content { IfOk result (λ next. content_in next ≡ []) }
 {
     match asked {
-        Asked::Head { flow, expects } => turn_head(now, flow, expects, reply, out),
-        Asked::Body { flow } => turn_body(place, now, flow, parked, reply, out),
-        Asked::Dial { flow, server } => {
-            forget(parked);
-            turn_dial(place, now, flow, server, reply, out)
-        }
-        Asked::Answer { flow, link } => turn_answer(now, flow, link, reply, out),
-        Asked::Returned { flow, link } => turn_returned(now, index, flow, link, reply, out),
-        Asked::GivenHead { flow } => turn_given_head(now, flow, reply, out),
-        Asked::GivenBody { flow } => turn_given_body(now, index, flow, reply, out),
+        Asked::Idle { flow, expects } => turn_head(now, at, flow, expects, reply, out),
+        Asked::RequestBody { flow } => turn_body(place, now, at, flow, reply, out),
+        Asked::Connection { flow, .. } => turn_dial(place, now, at, flow, reply, out),
+        Asked::ResponseHead { flow, server } => turn_answer(now, at, flow, server, reply, out),
+        Asked::ResponseBody { flow, server } => turn_returned(now, at, flow, server, reply, out),
+        Asked::GivenHead { flow } => turn_given_head(now, at, flow, reply, out),
+        Asked::GivenBody { flow } => turn_given_body(now, at, flow, reply, out),
     }
-}
-
-// No flow takes the parked side any more.
-fn forget(parked: &mut Option<Link>)
-    ensures { parked.new ≡ None }
-{
-    *parked = None;
 }
 
 // A flow that lacks the response that its hook is about.
@@ -73,44 +61,59 @@ fn give_up(flow: Boxed<Flow>) -> Wanted
 }
 
 // Ends the flow, and says nothing to the client.
-fn kill(now: Now, flow: Boxed<Flow>, used: Used, out: &mut Vec<Command>) -> Result<Wanted, NoMemory>
-    ensures gives { OnOk result (out.new.items ≡ out.old.items ++ (kills_flow flow now.moment used now.client_closed).owed) }
+fn kill(now: Now, flow: Boxed<Flow>, out: &mut Vec<Command>) -> Result<Wanted, NoMemory>
+    ensures gives { OnOk result (out.new.items ≡ out.old.items ++ (killed flow now.moment now.parked now.client_closed).owed) }
     ensures ready { IfOk result (λ next. next ≡ Wanted.Over) }
 {
-    end_early(now, flow, b"killed", used, out)?;
+    end_early(now, flow, b"killed", now.parked, out)?;
     Ok(Wanted::Over)
+}
+
+// No side is parked any more.
+fn unpark(at: &mut At)
+    ensures { at.new ≡ unparked at.old }
+{
+    at.parked = None;
 }
 
 // The hook of the request's head is answered.
 fn turn_head(
     now: Now,
+    at: &mut At,
     flow: Boxed<Flow>,
     expected: bool,
     reply: Reply,
     out: &mut Vec<Command>,
 ) -> Result<Wanted, NoMemory>
-    ensures gives { OnOk result (out.new.items ≡ out.old.items ++ head_owes flow expected (taken_at_request_head flow.request reply) now.moment now.parked now.client_closed) }
-    ensures ready { IfOk result (λ next. next ≡ behind_request_head flow (taken_at_request_head flow.request reply)) }
+    ensures gives { (seen : Sight) → server_parked at.old.parked seen ≡ now.parked → seen.closed ≡ now.client_closed →
+        OnOk result (out.new.items ≡ out.old.items ++ (turn_taken_head at.old flow expected (taken_at_request_head flow.request reply) now.moment seen).owed) }
+    ensures leads { (seen : Sight) →
+        IfOk result (λ next. stage_of at.new next ≡ sequence (turn_taken_head at.old flow expected (taken_at_request_head flow.request reply) now.moment seen).stage) }
+    ensures content { IfOk result (λ next. content_in next ≡ []) }
 {
     let taken = take_at_request_head(now.alloc, &flow.request, reply)?;
-    receive(now, flow, expected, taken, out)
+    receive(now, at, flow, expected, taken, out)
 }
 
 // The request's body is awaited, unless the flow is killed.
 fn receive(
     now: Now,
+    at: &mut At,
     flow: Boxed<Flow>,
     expected: bool,
     taken: Taken<Shared<Request>>,
     out: &mut Vec<Command>,
 ) -> Result<Wanted, NoMemory>
-    ensures gives { OnOk result (out.new.items ≡ out.old.items ++ head_owes flow expected taken now.moment now.parked now.client_closed) }
-    ensures ready { IfOk result (λ next. next ≡ behind_request_head flow taken) }
+    ensures gives { (seen : Sight) → server_parked at.old.parked seen ≡ now.parked → seen.closed ≡ now.client_closed →
+        OnOk result (out.new.items ≡ out.old.items ++ (turn_taken_head at.old flow expected taken now.moment seen).owed) }
+    ensures leads { (seen : Sight) →
+        IfOk result (λ next. stage_of at.new next ≡ sequence (turn_taken_head at.old flow expected taken now.moment seen).stage) }
+    ensures content { IfOk result (λ next. content_in next ≡ []) }
 {
     match taken {
         Taken::GoesOn(request) => {
             meet_expectation(now.alloc, expected, out)?;
-            Ok(Wanted::Receiving {
+            Ok(Wanted::RequestBody {
                 flow: flows::with_request(flow, request),
                 given: None,
                 body: Content::new(now.alloc),
@@ -118,13 +121,13 @@ fn receive(
         }
         Taken::Responds(response) => {
             meet_expectation(now.alloc, expected, out)?;
-            Ok(Wanted::Receiving {
+            Ok(Wanted::RequestBody {
                 flow,
                 given: Some(response),
                 body: Content::new(now.alloc),
             })
         }
-        Taken::Kills => kill(now, flow, now.parked, out),
+        Taken::Kills => kill(now, flow, out),
     }
 }
 
@@ -132,115 +135,124 @@ fn receive(
 fn turn_body(
     place: &Place,
     now: Now,
+    at: &mut At,
     flow: Boxed<Flow>,
-    parked: &mut Option<Link>,
     reply: Reply,
     out: &mut Vec<Command>,
 ) -> Result<Wanted, NoMemory>
-    ensures gives { OnOk result (out.new.items ≡ out.old.items ++ request_owes place.now flow parked.old (taken_at_request_body flow.request reply) now.moment now.parked now.client_closed) }
-    ensures ready { IfOk result (λ next. next ≡ behind_request place.now flow parked.old (taken_at_request_body flow.request reply)) }
-    ensures parked { OnOk result (parked.new ≡ request_parks place.now (taken_at_request_body flow.request reply) parked.old) }
+    ensures gives { (seen : Sight) → server_parked at.old.parked seen ≡ now.parked → seen.closed ≡ now.client_closed →
+        OnOk result (out.new.items ≡ out.old.items ++ (turn_taken_body place.now at.old flow (taken_at_request_body flow.request reply) now.moment seen).owed) }
+    ensures leads { (seen : Sight) →
+        IfOk result (λ next. stage_of at.new next ≡ sequence (turn_taken_body place.now at.old flow (taken_at_request_body flow.request reply) now.moment seen).stage) }
+    ensures content { IfOk result (λ next. content_in next ≡ []) }
 {
     let taken = take_at_request_body(now.alloc, &flow.request, reply)?;
-    send_onward(place, now, flow, parked, taken, out)
+    send_onward(place, now, at, flow, taken, out)
 }
 
 // The request goes on, unless a response is given in its server's place or the flow is killed.
 fn send_onward(
     place: &Place,
     now: Now,
+    at: &mut At,
     flow: Boxed<Flow>,
-    parked: &mut Option<Link>,
     taken: Taken<Shared<Request>>,
     out: &mut Vec<Command>,
 ) -> Result<Wanted, NoMemory>
-    ensures gives { OnOk result (out.new.items ≡ out.old.items ++ request_owes place.now flow parked.old taken now.moment now.parked now.client_closed) }
-    ensures ready { IfOk result (λ next. next ≡ behind_request place.now flow parked.old taken) }
-    ensures parked { OnOk result (parked.new ≡ request_parks place.now taken parked.old) }
+    ensures gives { (seen : Sight) → server_parked at.old.parked seen ≡ now.parked → seen.closed ≡ now.client_closed →
+        OnOk result (out.new.items ≡ out.old.items ++ (turn_taken_body place.now at.old flow taken now.moment seen).owed) }
+    ensures leads { (seen : Sight) →
+        IfOk result (λ next. stage_of at.new next ≡ sequence (turn_taken_body place.now at.old flow taken now.moment seen).stage) }
+    ensures content { IfOk result (λ next. content_in next ≡ []) }
 {
     match taken {
-        Taken::GoesOn(request) => {
-            let flow = flows::with_request(flow, request);
-            let link = take_home(place, flow.request.get(), parked);
-            go_on(place, now, flow, link, out)
-        }
+        Taken::GoesOn(request) => go_on(place, now, at, flows::with_request(flow, request), out),
         Taken::Responds(response) => Ok(Wanted::GivenHead {
             flow: flows::with_response(flow, response),
         }),
-        Taken::Kills => kill(now, flow, now.parked, out),
+        Taken::Kills => kill(now, flow, out),
     }
 }
 
-// Takes the parked side, where this request goes there.
-fn take_home(place: &Place, request: &Request, parked: &mut Option<Link>) -> Option<Link>
-    ensures taken { result ≡ link_home (goes_home place.now request.now) parked.old }
-    ensures left { parked.new ≡ unless_taken (goes_home place.now request.now) parked.old }
-{
-    if goes_home(place, request) {
-        return parked.take();
-    }
-    None
-}
-
-// Whether a request goes where its place stands.
-fn goes_home(place: &Place, request: &Request) -> bool
-    ensures { result ≡ goes_home place.now request.now }
-{
-    match place {
-        Place::Fixed { address, .. } => place.goes_to(address, request),
-        Place::Regular => false,
-        Place::Upstream(_) => false,
-    }
-}
-
-// The request goes to this side, which was parked; else the server is to be dialled.
+// The request goes to the side that is parked, where that is its server's; else the server is to be dialled.
 fn go_on(
     place: &Place,
     now: Now,
+    at: &mut At,
     flow: Boxed<Flow>,
-    link: Option<Link>,
     out: &mut Vec<Command>,
 ) -> Result<Wanted, NoMemory>
-    ensures gives { OnOk result (out.new.items ≡ out.old.items ++ request_to link place.now flow) }
-    ensures ready { IfOk result (λ next. next ≡ goes_on_to link place.now flow) }
+    ensures gives { OnOk result (out.new.items ≡ out.old.items ++ (goes_on_by (parked_for place.now flow.request at.old.parked) place.now at.old flow).owed) }
+    ensures leads { IfOk result (λ next. stage_of at.new next ≡ sequence (goes_on_by (parked_for place.now flow.request at.old.parked) place.now at.old flow).stage) }
+    ensures content { IfOk result (λ next. content_in next ≡ []) }
 {
-    match link {
-        Some(link) => go_home(place, now, flow, link, out),
-        None => Ok(Wanted::Dialling { flow }),
+    match parked_for(place, flow.request.get(), &at.parked) {
+        Some(server) => {
+            unpark(at);
+            send_request(place, now, flow, server, out)
+        }
+        None => Ok(Wanted::Connection { flow }),
     }
 }
 
-// The request goes to a side that was parked.
-fn go_home(
+// The number of the parked side, where this request goes to its address.
+fn parked_for(place: &Place, request: &Request, parked: &Option<Parked>) -> Option<u32>
+    ensures { result ≡ parked_for place.now request.now parked.now }
+{
+    match parked {
+        Some(parked) => {
+            if place.goes_to(&parked.address, request) {
+                Some(parked.server)
+            } else {
+                None
+            }
+        }
+        None => None,
+    }
+}
+
+// The request goes to the server of this number, whose response is awaited.
+fn send_request(
     place: &Place,
     now: Now,
     flow: Boxed<Flow>,
-    link: Link,
+    server: u32,
     out: &mut Vec<Command>,
 ) -> Result<Wanted, NoMemory>
-    ensures gives { OnOk result (out.new.items ≡ out.old.items ++ connected_owes place.now flow link.server) }
-    ensures ready { IfOk result (λ next. next ≡ goes_on_to (Some link) place.now flow) }
+    ensures gives { OnOk result (out.new.items ≡ out.old.items ++ connected_owes place.now flow server) }
+    ensures ready { IfOk result (λ next. next ≡ Wanted.ResponseHead (reached place.now flow) server) }
 {
-    let server = link.server;
-    let link = link.into_unread(now.alloc, is_head(flow.request.get().method.bytes()))?;
-    let link = Boxed::new(now.alloc, link)?;
-    send_request(place, now, flow, server, link, out)
+    send(
+        Side::Server(server),
+        onward_text(now.alloc, place.form(), flow.request.get())?,
+        out,
+    )?;
+    let address = Shared::new(now.alloc, server_for(place, &flow)?)?;
+    Ok(Wanted::ResponseHead {
+        flow: flows::with_server(flow, address),
+        server,
+    })
 }
 
 // The dial is answered.
 fn turn_dial(
     place: &Place,
     now: Now,
+    at: &mut At,
     flow: Boxed<Flow>,
-    server: u32,
     reply: Reply,
     out: &mut Vec<Command>,
 ) -> Result<Wanted, NoMemory>
-    ensures gives { OnOk result (out.new.items ≡ out.old.items ++ dial_owes place.now flow server reply now.moment now.client_closed) }
-    ensures ready { IfOk result (λ next. next ≡ behind_dial place.now flow server reply) }
+    requires dials { at.old.dials < 4294967295 }
+    ensures gives { OnOk result (out.new.items ≡ out.old.items ++ dial_owes place.now flow at.old.dials reply now.moment now.client_closed) }
+    ensures leads { IfOk result (λ next. stage_of at.new next ≡ sequence (dial_leads place.now at.old flow reply)) }
+    ensures content { IfOk result (λ next. content_in next ≡ []) }
 {
     match reply {
-        Reply::Dialled => connect(place, now, flow, server, out),
+        Reply::Dialled => {
+            let server = count_server(at);
+            send_request(place, now, flow, server, out)
+        }
         Reply::Refused(fault) => {
             end_by_fault(now, flow, fault, Used::NoServer, out)?;
             Ok(Wanted::Over)
@@ -249,63 +261,33 @@ fn turn_dial(
     }
 }
 
-// The server is connected: the request goes to it.
-fn connect(
-    place: &Place,
-    now: Now,
-    flow: Boxed<Flow>,
-    server: u32,
-    out: &mut Vec<Command>,
-) -> Result<Wanted, NoMemory>
-    ensures gives { OnOk result (out.new.items ≡ out.old.items ++ connected_owes place.now flow server) }
-    ensures ready { IfOk result (λ next. next ≡ connected place.now flow server) }
+// A server's number is used by its dial, and no side is parked any more.
+fn count_server(at: &mut At) -> u32
+    requires { at.old.dials < 4294967295 }
+    ensures number { result ≡ at.old.dials }
+    ensures counted { at.new ≡ record at.old { dials = at.old.dials + 1; parked = None } }
 {
-    let link = Link::new(
-        now.alloc,
-        server,
-        is_head(flow.request.get().method.bytes()),
-    );
-    let link = Boxed::new(now.alloc, link)?;
-    send_request(place, now, flow, server, link, out)
-}
-
-// The request goes to the server of this number, whose response is awaited on this side.
-fn send_request(
-    place: &Place,
-    now: Now,
-    flow: Boxed<Flow>,
-    server: u32,
-    link: Boxed<Link>,
-    out: &mut Vec<Command>,
-) -> Result<Wanted, NoMemory>
-    ensures gives { OnOk result (out.new.items ≡ out.old.items ++ connected_owes place.now flow server) }
-    ensures ready { IfOk result (λ next. next ≡ Wanted.Answering (reached place.now flow) link) }
-{
-    send(
-        Side::Server(server),
-        onward_text(now.alloc, place.form(), flow.request.get())?,
-        out,
-    )?;
-    let address = Shared::new(now.alloc, server_for(place, &flow)?)?;
-    Ok(Wanted::Answering {
-        flow: flows::with_server(flow, address),
-        link,
-    })
+    let server = at.dials;
+    at.dials = server + 1;
+    at.parked = None;
+    server
 }
 
 // The hook of the response's head is answered.
 fn turn_answer(
     now: Now,
+    at: &mut At,
     flow: Boxed<Flow>,
-    link: Boxed<Link>,
+    server: u32,
     reply: Reply,
     out: &mut Vec<Command>,
 ) -> Result<Wanted, NoMemory>
-    ensures gives { OnOk result (out.new.items ≡ out.old.items ++ answer_owes flow link (taken_at_head_of flow.response reply) now.moment now.client_closed) }
-    ensures ready { IfOk result (λ next. next ≡ answer_leads flow link (taken_at_head_of flow.response reply)) }
+    ensures gives { OnOk result (out.new.items ≡ out.old.items ++ (taken_turn (taken_at_head_of flow.response reply) (λ taken. turn_taken_answer at.old flow server taken now.moment now.parked now.client_closed)).owed) }
+    ensures leads { IfOk result (λ next. stage_of at.new next ≡ sequence (taken_turn (taken_at_head_of flow.response reply) (λ taken. turn_taken_answer at.old flow server taken now.moment now.parked now.client_closed)).stage) }
+    ensures content { IfOk result (λ next. content_in next ≡ []) }
 {
     match take_at_head_of(now.alloc, &flow, reply)? {
-        Some(taken) => receive_response(now, flow, link, taken, out),
+        Some(taken) => receive_response(now, at, flow, server, taken, out),
         None => Ok(give_up(flow)),
     }
 }
@@ -313,36 +295,40 @@ fn turn_answer(
 // The response's body is awaited, unless the flow is killed.
 fn receive_response(
     now: Now,
+    at: &mut At,
     flow: Boxed<Flow>,
-    link: Boxed<Link>,
+    server: u32,
     taken: Taken<Shared<Response>>,
     out: &mut Vec<Command>,
 ) -> Result<Wanted, NoMemory>
-    ensures gives { OnOk result (out.new.items ≡ out.old.items ++ (turn_taken_answer (numbered 0) flow no_side taken now.moment (Used.ByServer link.server link.closed) now.client_closed).owed) }
-    ensures ready { IfOk result (λ next. next ≡ behind_response_head flow link taken) }
+    ensures gives { OnOk result (out.new.items ≡ out.old.items ++ (turn_taken_answer at.old flow server taken now.moment now.parked now.client_closed).owed) }
+    ensures leads { IfOk result (λ next. stage_of at.new next ≡ sequence (turn_taken_answer at.old flow server taken now.moment now.parked now.client_closed).stage) }
+    ensures content { IfOk result (λ next. content_in next ≡ []) }
 {
     match taken {
-        Taken::GoesOn(response) => Ok(Wanted::Returning {
+        Taken::GoesOn(response) => Ok(Wanted::ResponseBody {
             flow: flows::with_response(flow, response),
-            link,
+            server,
             body: Content::new(now.alloc),
         }),
-        _ => kill(now, flows::without_response(flow), link.used(), out),
+        _ => kill(now, flows::without_response(flow), out),
     }
 }
 
 // The hook of the head of a response that was given in place of the server's is answered.
 fn turn_given_head(
     now: Now,
+    at: &mut At,
     flow: Boxed<Flow>,
     reply: Reply,
     out: &mut Vec<Command>,
 ) -> Result<Wanted, NoMemory>
-    ensures gives { OnOk result (out.new.items ≡ out.old.items ++ given_owes flow (taken_at_head_of flow.response reply) now.moment now.parked now.client_closed) }
-    ensures ready { IfOk result (λ next. next ≡ given_leads flow (taken_at_head_of flow.response reply)) }
+    ensures gives { OnOk result (out.new.items ≡ out.old.items ++ (taken_turn (taken_at_head_of flow.response reply) (λ taken. turn_taken_given at.old flow taken now.moment now.parked now.client_closed)).owed) }
+    ensures leads { IfOk result (λ next. stage_of at.new next ≡ sequence (taken_turn (taken_at_head_of flow.response reply) (λ taken. turn_taken_given at.old flow taken now.moment now.parked now.client_closed)).stage) }
+    ensures content { IfOk result (λ next. content_in next ≡ []) }
 {
     match take_at_head_of(now.alloc, &flow, reply)? {
-        Some(taken) => give_body(now, flow, taken, out),
+        Some(taken) => give_body(now, at, flow, taken, out),
         None => Ok(give_up(flow)),
     }
 }
@@ -350,35 +336,39 @@ fn turn_given_head(
 // The hook of the whole of it is to be asked, unless the flow is killed.
 fn give_body(
     now: Now,
+    at: &mut At,
     flow: Boxed<Flow>,
     taken: Taken<Shared<Response>>,
     out: &mut Vec<Command>,
 ) -> Result<Wanted, NoMemory>
-    ensures gives { OnOk result (out.new.items ≡ out.old.items ++ (turn_taken_given (numbered 0) flow taken now.moment now.parked now.client_closed).owed) }
-    ensures ready { IfOk result (λ next. next ≡ behind_given_head flow taken) }
+    ensures gives { OnOk result (out.new.items ≡ out.old.items ++ (turn_taken_given at.old flow taken now.moment now.parked now.client_closed).owed) }
+    ensures leads { IfOk result (λ next. stage_of at.new next ≡ sequence (turn_taken_given at.old flow taken now.moment now.parked now.client_closed).stage) }
+    ensures content { IfOk result (λ next. content_in next ≡ []) }
 {
     match taken {
         Taken::GoesOn(response) => Ok(Wanted::GivenBody {
             flow: flows::with_response(flow, response),
         }),
-        _ => kill(now, flows::without_response(flow), now.parked, out),
+        _ => kill(now, flows::without_response(flow), out),
     }
 }
 
 // The hook of the whole response of a server is answered.
 fn turn_returned(
     now: Now,
-    index: u32,
+    at: &mut At,
     flow: Boxed<Flow>,
-    link: Boxed<Link>,
+    server: u32,
     reply: Reply,
     out: &mut Vec<Command>,
 ) -> Result<Wanted, NoMemory>
-    ensures gives { OnOk result (out.new.items ≡ out.old.items ++ read_whole_owes index flow (taken_at_body_of flow.response reply) now.moment (Used.ByServer link.server link.closed) now.client_closed) }
-    ensures ready { IfOk result (λ next. next ≡ read_whole_leads index flow link (taken_at_body_of flow.response reply)) }
+    requires few { at.old.flow < 1000000 }
+    ensures gives { OnOk result (out.new.items ≡ out.old.items ++ (taken_turn (taken_at_body_of flow.response reply) (λ taken. turn_taken_whole at.old flow server taken now.moment now.parked now.client_closed)).owed) }
+    ensures leads { IfOk result (λ next. stage_of at.new next ≡ sequence (taken_turn (taken_at_body_of flow.response reply) (λ taken. turn_taken_whole at.old flow server taken now.moment now.parked now.client_closed)).stage) }
+    ensures content { IfOk result (λ next. content_in next ≡ []) }
 {
     match take_at_body_of(now.alloc, &flow, reply)? {
-        Some(taken) => end_exchange(now, index, flow, link, taken, out),
+        Some(taken) => end_exchange(now, at, flow, server, taken, out),
         None => Ok(give_up(flow)),
     }
 }
@@ -386,49 +376,56 @@ fn turn_returned(
 // The response is sent, unless the flow is killed.
 fn end_exchange(
     now: Now,
-    index: u32,
+    at: &mut At,
     flow: Boxed<Flow>,
-    link: Boxed<Link>,
+    server: u32,
     taken: Taken<Shared<Response>>,
     out: &mut Vec<Command>,
 ) -> Result<Wanted, NoMemory>
-    ensures gives { OnOk result (out.new.items ≡ out.old.items ++ (turn_taken_whole (numbered index) flow no_side taken now.moment (Used.ByServer link.server link.closed) now.client_closed).owed) }
-    ensures ready { IfOk result (λ next. next ≡ behind_whole index flow link taken) }
+    requires few { at.old.flow < 1000000 }
+    ensures gives { OnOk result (out.new.items ≡ out.old.items ++ (turn_taken_whole at.old flow server taken now.moment now.parked now.client_closed).owed) }
+    ensures leads { IfOk result (λ next. stage_of at.new next ≡ sequence (turn_taken_whole at.old flow server taken now.moment now.parked now.client_closed).stage) }
+    ensures content { IfOk result (λ next. content_in next ≡ []) }
 {
     match taken {
-        Taken::GoesOn(response) => answer_client(now, index, flow, link, response, out),
-        _ => kill(now, flow, link.used(), out),
+        Taken::GoesOn(response) => answer_client(now, at, flow, server, response, out),
+        _ => kill(now, flow, out),
     }
 }
 
-// The response is sent. One of code 101 ends HTTP; any other finishes the flow.
+// The response is sent. One of code 101 ends HTTP; any other finishes the flow, and its server's side.
 fn answer_client(
     now: Now,
-    index: u32,
+    at: &mut At,
     flow: Boxed<Flow>,
-    link: Boxed<Link>,
+    server: u32,
     response: Shared<Response>,
     out: &mut Vec<Command>,
 ) -> Result<Wanted, NoMemory>
-    ensures gives { OnOk result (out.new.items ≡ out.old.items ++ (finish_by (response.status == 101) (numbered index) flow response no_side (Used.ByServer link.server link.closed) now.client_closed).owed) }
-    ensures ready { IfOk result (λ next. next ≡ upgrades_by (response.status == 101) index flow response link) }
+    requires few { at.old.flow < 1000000 }
+    ensures gives { OnOk result (out.new.items ≡ out.old.items ++ (finish_by (response.status == 101) at.old flow response server now.parked now.client_closed).owed) }
+    ensures leads { IfOk result (λ next. stage_of at.new next ≡ sequence (finish_by (response.status == 101) at.old flow response server now.parked now.client_closed).stage) }
+    ensures content { IfOk result (λ next. content_in next ≡ []) }
 {
     if response.get().status.code() == 101 {
-        return upgrade(now, flow, link, response, out);
+        return upgrade(now, at, flow, server, response, out);
     }
-    finish_flow(now, index, flow, response, link.used(), Used::NoServer, out)
+    unpark(at);
+    finish_flow(now, at, flow, response, now.parked, Used::NoServer, out)
 }
 
 // Sends a response of code 101: what follows on both sides is of another protocol, and the flow is not finished.
 fn upgrade(
     now: Now,
+    at: &At,
     flow: Boxed<Flow>,
-    link: Boxed<Link>,
+    server: u32,
     response: Shared<Response>,
     out: &mut Vec<Command>,
 ) -> Result<Wanted, NoMemory>
-    ensures gives { OnOk result (out.new.items ≡ out.old.items ++ commands.Send ToClient (returned flow.request response) ∷ []) }
-    ensures ready { IfOk result (λ next. next ≡ Wanted.Upgraded (record flow { response = Some response }) link) }
+    ensures gives { OnOk result (out.new.items ≡ out.old.items ++ (upgrades at.now flow response server).owed) }
+    ensures leads { IfOk result (λ next. stage_of at.now next ≡ sequence (upgrades at.now flow response server).stage) }
+    ensures content { IfOk result (λ next. content_in next ≡ []) }
 {
     let sent = settled(flow.request.get(), response.get())?;
     send(
@@ -438,23 +435,25 @@ fn upgrade(
     )?;
     Ok(Wanted::Upgraded {
         flow: flows::with_response(flow, response),
-        link,
+        server,
     })
 }
 
 // The hook of the whole of a response that was given in place of the server's is answered.
 fn turn_given_body(
     now: Now,
-    index: u32,
+    at: &mut At,
     flow: Boxed<Flow>,
     reply: Reply,
     out: &mut Vec<Command>,
 ) -> Result<Wanted, NoMemory>
-    ensures gives { OnOk result (out.new.items ≡ out.old.items ++ whole_owes index flow (taken_at_body_of flow.response reply) now.moment now.parked now.client_closed) }
-    ensures ready { IfOk result (λ next. next ≡ whole_leads index flow (taken_at_body_of flow.response reply)) }
+    requires few { at.old.flow < 1000000 }
+    ensures gives { OnOk result (out.new.items ≡ out.old.items ++ (taken_turn (taken_at_body_of flow.response reply) (λ taken. turn_taken_returned at.old flow taken now.moment now.parked now.client_closed)).owed) }
+    ensures leads { IfOk result (λ next. stage_of at.new next ≡ sequence (taken_turn (taken_at_body_of flow.response reply) (λ taken. turn_taken_returned at.old flow taken now.moment now.parked now.client_closed)).stage) }
+    ensures content { IfOk result (λ next. content_in next ≡ []) }
 {
     match take_at_body_of(now.alloc, &flow, reply)? {
-        Some(taken) => end_flow(now, index, flow, taken, out),
+        Some(taken) => end_flow(now, at, flow, taken, out),
         None => Ok(give_up(flow)),
     }
 }
@@ -462,45 +461,52 @@ fn turn_given_body(
 // The flow is finished with a response that was given in place of the server's, or killed.
 fn end_flow(
     now: Now,
-    index: u32,
+    at: &mut At,
     flow: Boxed<Flow>,
     taken: Taken<Shared<Response>>,
     out: &mut Vec<Command>,
 ) -> Result<Wanted, NoMemory>
-    ensures gives { OnOk result (out.new.items ≡ out.old.items ++ (turn_taken_returned (numbered index) flow taken now.moment now.parked now.client_closed).owed) }
-    ensures ready { IfOk result (λ next. next ≡ behind_response index flow taken) }
+    requires few { at.old.flow < 1000000 }
+    ensures gives { OnOk result (out.new.items ≡ out.old.items ++ (turn_taken_returned at.old flow taken now.moment now.parked now.client_closed).owed) }
+    ensures leads { IfOk result (λ next. stage_of at.new next ≡ sequence (turn_taken_returned at.old flow taken now.moment now.parked now.client_closed).stage) }
+    ensures content { IfOk result (λ next. content_in next ≡ []) }
 {
     match taken {
         Taken::GoesOn(response) => {
-            finish_flow(now, index, flow, response, Used::NoServer, now.parked, out)
+            finish_flow(now, at, flow, response, Used::NoServer, now.parked, out)
         }
-        _ => kill(now, flow, now.parked, out),
+        _ => kill(now, flow, out),
     }
 }
 
 // The flow is finished with this response.
 fn finish_flow(
     now: Now,
-    index: u32,
+    at: &mut At,
     flow: Boxed<Flow>,
     response: Shared<Response>,
     used: Used,
     parked: Used,
     out: &mut Vec<Command>,
 ) -> Result<Wanted, NoMemory>
-    ensures gives { OnOk result (out.new.items ≡ out.old.items ++ (finishes (numbered index) flow response used parked now.client_closed).owed) }
-    ensures ready { IfOk result (λ next. next ≡ behind_flow (connection_goes_on index flow.request response)) }
+    requires few { at.old.flow < 1000000 }
+    ensures gives { OnOk result (out.new.items ≡ out.old.items ++ (finishes at.old flow response used parked now.client_closed).owed) }
+    ensures leads { IfOk result (λ next. stage_of at.new next ≡ sequence (finishes at.old flow response used parked now.client_closed).stage) }
+    ensures content { IfOk result (λ next. content_in next ≡ []) }
 {
-    let stays = finish(now, index, flow, response, used, parked, out)?;
-    Ok(next_of(stays))
+    let stays = finish(now, at.flow, flow, response, used, parked, out)?;
+    Ok(count_flow(at, stays))
 }
 
-// What is looked for behind a finished flow.
-fn next_of(stays: bool) -> Wanted
-    ensures { result ≡ behind_flow stays }
+// The next flow's head is looked for behind a finished one, where the client's connection goes on.
+fn count_flow(at: &mut At, stays: bool) -> Wanted
+    requires { at.old.flow < 1000000 }
+    ensures leads { stage_of at.new result ≡ sequence (behind_flow stays at.old) }
+    ensures content { content_in result ≡ [] }
 {
     if stays {
-        Wanted::Finished
+        at.flow = at.flow + 1;
+        Wanted::Idle
     } else {
         Wanted::Over
     }

@@ -1,11 +1,10 @@
 //! Looks for the final response: its head, and then its body.
 ghost use Rattle.std.specs.Prelude.{◌≡◌, ◌++◌, IfOk, OnOk};
 ghost use Rattle.px_exchange.specs.Bodies.{IsReading};
-ghost use Rattle.px_stream.specs.Bodies.{ReturnFound};
 ghost use Rattle.px_exchange.specs.Finds.{is_relayed};
-ghost use Rattle.px_stream.specs.Responses.{AnswerFound, IsKept};
-ghost use Rattle.px_stream.specs.Looks.{answer_gives, answer_phase, relayed_phase, relays, returned_gives, returned_phase};
-ghost use Rattle.px_stream.specs.declared.link.Link.{Link as KeptLink};
+ghost use Rattle.px_stream.specs.Looks.{AnswerFound, ReadsMore, ReturnFound, answer_gives, answer_phase, relayed_phase, relays, returned_gives, returned_phase};
+ghost use Rattle.px_stream.specs.Responses.{IsKept, ReadsAnswer};
+ghost use Rattle.px_stream.specs.Stands.{IsOpen, StaysOpen};
 
 use super::{fail, leave};
 use crate::link::Link;
@@ -21,46 +20,59 @@ use px_exchange::terms::Now;
 use px_message::{Fault, Flow};
 use px_read::ResponseHead;
 use px_text::NoMemory;
+use std::alloc::Global;
 
 /// Looks for the head of the final response.
 pub fn look_for_answer(
     now: Now,
+    side: &mut Option<Link>,
     flow: Boxed<Flow>,
-    link: Boxed<Link>,
+    server: u32,
     out: &mut Vec<Command>,
 ) -> Result<Phase, NoMemory>
-    requires kept { IsKept link }
-    ensures looks { IfOk result (λ next. AnswerFound flow link now.moment now.client_closed out.old.items out.new.items next) }
+    requires kept { IsOpen IsKept side.old }
+    ensures looks { IfOk result (λ next. AnswerFound flow server side.old side.new now.moment now.parked now.client_closed out.old.items out.new.items next) }
 {
-    let mut link = link;
     let sends = asks_http11(&flow);
-    let answer = read_answer(now.alloc, &mut link, sends, out)?;
-    look_at_answer(now, flow, link, answer, out)
+    let answer = read_side(now.alloc, side, sends, out)?;
+    look_at_answer(now, flow, server, answer, out)
+}
+
+// Reads the open side up to the head of the final response.
+fn read_side(
+    alloc: Global,
+    side: &mut Option<Link>,
+    sends: bool,
+    out: &mut Vec<Command>,
+) -> Result<FinalHead, NoMemory>
+    requires kept { IsOpen IsKept side.old }
+    ensures { IfOk result (λ answer. StaysOpen (λ link later. ReadsAnswer answer sends link out.old.items later out.new.items) side.old side.new) }
+{
+    match side {
+        Some(link) => read_answer(alloc, link, sends, out),
+        None => unreachable!(),
+    }
 }
 
 // What is made of the final response's head, if it has come.
 fn look_at_answer(
     now: Now,
     flow: Boxed<Flow>,
-    link: Boxed<Link>,
+    server: u32,
     answer: FinalHead,
     out: &mut Vec<Command>,
 ) -> Result<Phase, NoMemory>
-    ensures gives { OnOk result (out.new.items ≡ out.old.items ++ answer_gives flow link answer now.moment now.client_closed) }
-    ensures phase { IfOk result (λ next. next ≡ answer_phase flow link answer now.moment now.client_closed) }
+    ensures gives { OnOk result (out.new.items ≡ out.old.items ++ answer_gives flow answer now.moment now.parked now.client_closed) }
+    ensures phase { IfOk result (λ next. next ≡ answer_phase flow server answer now.moment now.client_closed) }
 {
     match answer {
-        FinalHead::Head(head) => relay_head(now, flow, link, head, out),
-        FinalHead::Bad(fault) => {
-            let used = link.used();
-            fail(now, flow, fault, used, out)
-        }
+        FinalHead::Head(head) => relay_head(now, flow, server, head, out),
+        FinalHead::Bad(fault) => fail(now, flow, fault, now.parked, out),
         FinalHead::Missing => {
             if now.client_closed {
-                let used = link.used();
-                return leave(now, flow, used, out);
+                return leave(now, flow, now.parked, out);
             }
-            Ok(Phase::Ready(Wanted::Answering { flow, link }))
+            Ok(Phase::Ready(Wanted::ResponseHead { flow, server }))
         }
     }
 }
@@ -69,23 +81,20 @@ fn look_at_answer(
 fn relay_head(
     now: Now,
     flow: Boxed<Flow>,
-    link: Boxed<Link>,
+    server: u32,
     head: ResponseHead,
     out: &mut Vec<Command>,
 ) -> Result<Phase, NoMemory>
-    ensures gives { OnOk result (out.new.items ≡ out.old.items ++ relays (is_relayed head.code) flow link head now.moment now.client_closed) }
-    ensures phase { IfOk result (λ next. next ≡ relayed_phase (is_relayed head.code) flow link head now.moment) }
+    ensures gives { OnOk result (out.new.items ≡ out.old.items ++ relays (is_relayed head.code) flow head now.moment now.parked now.client_closed) }
+    ensures phase { IfOk result (λ next. next ≡ relayed_phase (is_relayed head.code) flow server head now.moment) }
 {
     match status_of(head.code) {
-        None => {
-            let used = link.used();
-            fail(now, flow, Fault::BadResponse, used, out)
-        }
+        None => fail(now, flow, Fault::BadResponse, now.parked, out),
         Some(status) => {
             let response = response_of(now.alloc, head, status);
             let flow = flows::with_answer(now, flow, response)?;
             ask(&flow, Hook::ResponseHead, out)?;
-            Ok(Phase::Asked(Asked::Answer { flow, link }))
+            Ok(Phase::Asked(Asked::ResponseHead { flow, server }))
         }
     }
 }
@@ -93,48 +102,59 @@ fn relay_head(
 /// Looks for the rest of the response's body.
 pub fn look_for_returned(
     now: Now,
+    side: &mut Option<Link>,
     flow: Boxed<Flow>,
-    link: Boxed<Link>,
+    server: u32,
     body: Content,
     out: &mut Vec<Command>,
 ) -> Result<Phase, NoMemory>
-    requires reads { IsReading link.responses }
-    ensures looks { IfOk result (λ next. (new : KeptLink) × ReturnFound flow body link new now.moment now.client_closed out.old.items out.new.items next) }
+    requires reads { IsOpen (λ link. IsReading link.responses) side.old }
+    ensures looks { IfOk result (λ next. ReturnFound flow server body side.old side.new now.moment now.parked now.client_closed out.old.items out.new.items next) }
 {
-    let mut link = link;
     let mut body = body;
-    let progress = read_body(&mut link.responses, &mut body)?;
-    look_at_returned(now, flow, link, progress, body, out)
+    let progress = read_more(side, &mut body)?;
+    look_at_returned(now, flow, server, progress, body, out)
+}
+
+// Reads the body that comes on the open side.
+fn read_more(side: &mut Option<Link>, body: &mut Content) -> Result<Progress, NoMemory>
+    requires reads { IsOpen (λ link. IsReading link.responses) side.old }
+    ensures { IfOk result (λ progress. StaysOpen (ReadsMore progress body.old body.new) side.old side.new) }
+{
+    match side {
+        Some(link) => read_body(&mut link.responses, body),
+        None => unreachable!(),
+    }
 }
 
 // What is made of the body, as far as it has come.
 fn look_at_returned(
     now: Now,
     flow: Boxed<Flow>,
-    link: Boxed<Link>,
+    server: u32,
     progress: Progress,
     body: Content,
     out: &mut Vec<Command>,
 ) -> Result<Phase, NoMemory>
-    ensures gives { OnOk result (out.new.items ≡ out.old.items ++ returned_gives flow link progress body now.moment now.client_closed) }
-    ensures phase { IfOk result (λ next. next ≡ returned_phase flow link progress body now.moment now.client_closed) }
+    ensures gives { OnOk result (out.new.items ≡ out.old.items ++ returned_gives flow progress body now.moment now.parked now.client_closed) }
+    ensures phase { IfOk result (λ next. next ≡ returned_phase flow server progress body now.moment now.client_closed) }
 {
     match progress {
         Progress::Whole(trailers) => {
             let flow = flows::with_returned(now, flow, body, trailers)?;
             ask(&flow, Hook::ResponseBody, out)?;
-            Ok(Phase::Asked(Asked::Returned { flow, link }))
+            Ok(Phase::Asked(Asked::ResponseBody { flow, server }))
         }
         Progress::Bad(fault) => {
-            let used = link.used();
-            fail(now, flow, fault, used, out)
+            drop(body);
+            fail(now, flow, fault, now.parked, out)
         }
         Progress::Missing => {
             if now.client_closed {
-                let used = link.used();
-                return leave(now, flows::without_response(flow), used, out);
+                drop(body);
+                return leave(now, flows::without_response(flow), now.parked, out);
             }
-            Ok(Phase::Ready(Wanted::Returning { flow, link, body }))
+            Ok(Phase::Ready(Wanted::ResponseBody { flow, server, body }))
         }
     }
 }

@@ -6,14 +6,11 @@ ghost use Rattle.px_read.specs.Items.{request_item};
 ghost use Rattle.px_read.specs.declared.head.RequestHead.{RequestHead as ReadHead};
 ghost use Rattle.px_read.specs.Reader.{Reads, request as OfRequest};
 ghost use Rattle.px_exchange.specs.Bodies.{IsReading};
-ghost use Rattle.px_stream.specs.Bodies.{BodyFound};
 ghost use Rattle.px_chain.specs.Chain.{connect_in};
-ghost use Rattle.px_stream.specs.Looking.{BehindJudged, GaveNext, HeadRead};
-ghost use Rattle.px_stream.specs.Looks.{body_gives, body_phase, where_left, whole_gives, whole_phase};
 ghost use Rattle.px_exchange.specs.Flows.{ask_of};
 ghost use Rattle.px_exchange.specs.Finds.{look_head, look_judged, or_leaves};
 ghost use Rattle.px_exchange.specs.Endings.{refuses, shut_server};
-ghost use Rattle.px_stream.specs.Phases.{head_phase, is_over, judged_phase, unless_left};
+ghost use Rattle.px_stream.specs.Looks.{BehindJudged, BodyFound, GaveNext, HeadRead, body_gives, body_phase, head_phase, is_over, judged_phase, unless_left, where_left, whole_gives, whole_phase};
 ghost use Rattle.px_exchange.specs.Requests.{expects as expecting, flow_of, judged, is_head as asks_head};
 
 use super::{ask_given_head, fail, leave};
@@ -137,11 +134,11 @@ fn ask_head(
     out: &mut Vec<Command>,
 ) -> Result<Phase, NoMemory>
     ensures gives { OnOk result (out.new.items ≡ out.old.items ++ ask_of (flow_of terms.now index request now.moment) AtHead ∷ []) }
-    ensures phase { IfOk result (λ next. next ≡ Phase.Asked (Asked.Head (flow_of terms.now index request now.moment) expected)) }
+    ensures phase { IfOk result (λ next. next ≡ Phase.Asked (Asked.Idle (flow_of terms.now index request now.moment) expected)) }
 {
     let flow = flows::begin(now.alloc, terms, index, request, now.moment)?;
     ask(&flow, Hook::RequestHead, out)?;
-    Ok(Phase::Asked(Asked::Head {
+    Ok(Phase::Asked(Asked::Idle {
         flow,
         expects: expected,
     }))
@@ -192,7 +189,7 @@ fn look_at_body(
                 drop(given);
                 return leave(now, flow, now.parked, out);
             }
-            Ok(Phase::Ready(Wanted::Receiving { flow, given, body }))
+            Ok(Phase::Ready(Wanted::RequestBody { flow, given, body }))
         }
     }
 }
@@ -211,7 +208,7 @@ fn ask_whole(
         Some(response) => ask_given_head(now, flows::with_response(flow, response), out),
         None => {
             ask(&flow, Hook::RequestBody, out)?;
-            Ok(Phase::Asked(Asked::Body { flow }))
+            Ok(Phase::Asked(Asked::RequestBody { flow }))
         }
     }
 }

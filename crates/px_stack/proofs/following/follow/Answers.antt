@@ -1,7 +1,7 @@
 use Rattle.std.proofs.Common.{[], refl, ap, sym, ◌∙◌}
 use Rattle.std.proofs.lemmas.List.{append-nil}
 use Rattle.rand_chacha.specs.ChaCha.{key_of}
-use Rattle.px_stream.specs.Sequence.{outcome_in}
+use Rattle.px_stream.specs.Tells.{outcome_in}
 use Rattle.px_stack.proofs.FollowLemmas.{ends_asks, ends_with, goes_on, with_one_key}
 use Rattle.px_stack.proofs.following.follow.Goals as goal
 

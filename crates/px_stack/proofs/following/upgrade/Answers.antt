@@ -4,8 +4,7 @@ use Rattle.px_message.specs.declared.flow.Flow.{Flow}
 use Rattle.px_event.specs.declared.command.Command.{Command}
 use Rattle.px_event.specs.declared.event.Rests.{Rests}
 use Rattle.px_http.specs.declared.conversation.HttpConv.{HttpConv}
-use Rattle.px_stream.specs.Rests.{phase_flow, phase_rest}
-use Rattle.px_stream.specs.Sequence.{upgraded_side}
+use Rattle.px_stream.specs.Tells.{phase_flow, side_rest, upgraded_side, uses_side}
 use Rattle.px_stack.specs.declared.closing.Sides.{Sides}
 use Rattle.px_stack.specs.Kept.{left_by, most_asked}
 use Rattle.px_stack.specs.Steps.{Adds, Follows, GoesOnAs}
@@ -27,10 +26,10 @@ returns-clause-follows c =
       more = adds.more;
       grown = adds.grown;
       holds = upgrades key c.args.moment flows sides rests flow child adds.more c.requires
-          (ap (λ (h : HttpConv). upgraded_side h.stream.phase) (sym c.deref.ensures) ∙ c.read_sides-sides.ensures.server)
+          (ap (λ (h : HttpConv). upgraded_side h.stream.phase h.stream.side) (sym c.deref.ensures) ∙ c.read_sides-sides.ensures.server)
           (c.read_sides-sides.ensures.closed ∙ ap (λ (h : HttpConv). h.stream.client_closed) c.deref.ensures)
           (c.in_ok-rests.ensures.client ∙ ap (λ (h : HttpConv). h.stream.requests.rest) c.into_inner.ensures)
-          (c.in_ok-rests.ensures.server ∙ ap (λ (h : HttpConv). phase_rest h.stream.phase) c.into_inner.ensures)
+          (c.in_ok-rests.ensures.server ∙ ap (λ (h : HttpConv). side_rest (uses_side h.stream.phase) h.stream.side) c.into_inner.ensures)
           (sym c.in-Some.is ∙ (c.in_ok-rests.ensures.flow ∙ ap (λ (h : HttpConv). phase_flow h.stream.phase) c.into_inner.ensures))
           few adds.holds;
     })

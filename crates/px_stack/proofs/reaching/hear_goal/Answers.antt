@@ -2,7 +2,7 @@ use Rattle.px_stack.proofs.GoalLemmas.{flow_heard, tunnel_left_alike, tunnel_res
 use Rattle.px_stack.proofs.LetLemmas.{flow_somewhere, flow_waits}
 use Rattle.px_http.specs.declared.conversation.HttpConv.{HttpConv}
 use Rattle.px_stream.specs.Anywhere.{Somewhere}
-use Rattle.px_stream.specs.Through.{IsDialling}
+use Rattle.px_stream.specs.Tells.{IsDialling}
 use Rattle.std.proofs.Common.{sym, subst}
 use Rattle.px_stack.proofs.reaching.hear_goal.Goals as goal
 

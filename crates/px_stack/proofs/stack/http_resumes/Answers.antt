@@ -4,7 +4,7 @@ use Rattle.rand_chacha.specs.ChaCha.{key_of}
 use Rattle.px_event.specs.declared.command.Command.{Command}
 use Rattle.px_http.specs.declared.conversation.HttpConv.{HttpConv}
 use Rattle.px_stream.specs.Anywhere.{Somewhere, ResumesAnywhere}
-use Rattle.px_stream.specs.Left.{sequence_left}
+use Rattle.px_stream.specs.Tells.{sequence_left}
 use Rattle.px_stack.specs.declared.child.Child.TheVariants as children
 use Rattle.px_stack.specs.Kept.{left_by}
 use Rattle.px_stack.specs.Steps.{Adds, Follows, ResumesChild}

@@ -2,7 +2,7 @@ use Rattle.std.proofs.Common.{◌<◌, subst}
 use Rattle.rand_chacha.specs.ChaCha.{key_of}
 use Rattle.px_http.specs.declared.conversation.HttpConv.{HttpConv}
 use Rattle.px_stream.specs.Anywhere.{Reaches}
-use Rattle.px_stream.specs.Left.{sequence_left}
+use Rattle.px_stream.specs.Tells.{sequence_left}
 use Rattle.px_stack.proofs.LetLemmas.{led_bound, led_given}
 use Rattle.px_stack.proofs.stack.reach.Goals as goal
 

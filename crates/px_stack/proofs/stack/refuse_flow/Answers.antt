@@ -2,7 +2,7 @@ use Rattle.std.proofs.Common.{ap, sym, ◌++◌, ◌∙◌}
 use Rattle.px_message.specs.declared.fault.Fault.TheVariants.{UpstreamRefused}
 use Rattle.px_exchange.specs.Endings.{ends_by_fault}
 use Rattle.px_http.specs.declared.conversation.HttpConv.{HttpConv}
-use Rattle.px_stream.specs.Through.{dialled_flow}
+use Rattle.px_stream.specs.Tells.{dialled_flow}
 use Rattle.px_stack.proofs.LetLemmas.{none_dialled, same_flow}
 use Rattle.px_stack.proofs.stack.refuse_flow.Goals as goal
 

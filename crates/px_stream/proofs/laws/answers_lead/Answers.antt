@@ -1,9 +1,14 @@
-use Rattle.px_stream.proofs.TurnLemmas.{answered, parks}
+use Rattle.std.proofs.Common.{ap, sym, ◌∙◌}
+use Rattle.px_chain.specs.Stages.{place_of}
+use Rattle.px_stream.specs.Turns.{asked_turn}
+use Rattle.px_stream.proofs.AskLemmas.{used_asked}
+use Rattle.px_stream.proofs.TurnLemmas.{turn_asked, turned}
 use Rattle.px_stream.proofs.laws.answers_lead.Goals as goal
 
-pub returns-clause-leads : goal.returns-clause-leads
-returns-clause-leads c made seen requests numbers closed parked answer stage asked place dials is_parked is =
-    answered made seen requests numbers closed parked answer stage asked place dials is_parked is
+pub returns-clause-turn : goal.returns-clause-turn
+returns-clause-turn c made stage seen answer found used is uses =
+    turn_asked made seen answer stage found is
+    ∙ ap (λ u. asked_turn made.place (place_of stage) found seen u seen.closed answer) (sym (used_asked made stage seen found is) ∙ uses)
 
-pub returns-clause-parked : goal.returns-clause-parked
-returns-clause-parked c made seen requests parked answer stage asked is_parked is = parks made seen requests parked answer stage asked is_parked is
+pub returns-clause-readers : goal.returns-clause-readers
+returns-clause-readers c = turned

@@ -1,4 +1,4 @@
-use Rattle.px_stream.proofs.AdvanceLemmas.{advanced}
+use Rattle.px_stream.proofs.LookLemmas.{advanced}
 use Rattle.px_stream.proofs.laws.looks_follow.Goals as goal
 
 pub returns : goal.returns

@@ -1,4 +1,4 @@
-use Rattle.px_stream.specs.StateLaws.{awaits_what_it_asks, ends_where_it_ends}
+use Rattle.px_stream.proofs.StateLaws.{awaits_what_it_asks, ends_where_it_ends}
 use Rattle.px_stream.proofs.laws.states_follow.Goals as goal
 
 pub returns-clause-awaits : goal.returns-clause-awaits

@@ -1,4 +1,4 @@
-use Rattle.px_stream.specs.Responses.{SendsOn, left_of}
+use Rattle.px_stream.proofs.ResponseLemmas.{SendsOn, left_of}
 use Rattle.px_stream.proofs.reading.read_answer.Given as goal
 
 abbrev pub invariant-answers : goal.invariant-answers

@@ -1,4 +1,4 @@
-use Rattle.std.proofs.Common.{◌++◌, ap, sym, ◌∙◌}
+use Rattle.std.proofs.Common.{◌++◌, ap, sym, refl, ◌∙◌}
 use Rattle.std.proofs.lemmas.List.{append-nil}
 use Rattle.px_stream.proofs.TurnLemmas.{owes_none, leads_none}
 use Rattle.px_stream.proofs.turning.turn_dial.Goals as goal
@@ -6,7 +6,8 @@ use Rattle.px_stream.proofs.turning.turn_dial.Goals as goal
 pub returns-in_default : goal.returns-in_default
 returns-in_default c = record {
   gives = sym (ap (λ l. c.args.out.now.items ++ l)
-      (owes_none c.args.place.now c.args.flow c.args.server c.args.reply c.args.now.moment c.args.now.client_closed c.in_default.not-Dialled c.in_default.not-Refused)
+      (owes_none c.args.place.now c.args.flow c.args.at.now.dials c.args.reply c.args.now.moment c.args.now.client_closed c.in_default.not-Dialled c.in_default.not-Refused)
       ∙ append-nil c.args.out.now.items);
-  ready = sym (leads_none c.args.place.now c.args.flow c.args.server c.args.reply c.in_default.not-Dialled c.in_default.not-Refused);
+  leads = leads_none c.args.place.now c.args.at.now c.args.flow c.args.reply c.in_default.not-Dialled;
+  content = refl;
 }

@@ -1,7 +1,5 @@
-use Rattle.px_chain.specs.Chain.{sequence}
-use Rattle.px_http.specs.Stands.{flow_stands}
+use Rattle.px_http.specs.Stands.{ahead_of}
 use Rattle.px_http.proofs.conversation.HttpConv.into_rests.Goals as goal
 
 pub returns-clause-behind : goal.returns-clause-behind
-returns-clause-behind c made moves given stands =
-    c.into_rests.ensures.behind sequence made.stream moves given (flow_stands made c.args.self moves given stands)
+returns-clause-behind c made moves given stands = c.into_rests.ensures.behind made.stream.terms (ahead_of made.stream.at) _ _ stands.place

@@ -1,10 +1,11 @@
+use Rattle.std.proofs.Common.{ap}
+use Rattle.px_chain.specs.Stages.{At}
+use Rattle.px_http.proofs.CallLemmas.{made_first}
 use Rattle.px_http.proofs.conversation.HttpConv.new.Goals as goal
 
-pub new-requires-clause-few : goal.new-requires-clause-few
-new-requires-clause-few c = c.requires.few
-
-pub new-requires-clause-side : goal.new-requires-clause-side
-new-requires-clause-side c = c.requires.side
+pub new-requires : goal.new-requires
+new-requires c = record { few = c.requires.few; side = c.requires.side }
 
 pub returns-clause-stands : goal.returns-clause-stands
-returns-clause-stands c = c.new.ensures.in_sequence c.requires.dials
+returns-clause-stands c =
+    made_first (record { stream = c.in_ok-new.new }) _ _ (ap (λ (a : At). a.flow) c.in_ok-new.ensures.at) (ap (λ (a : At). a.dials) c.in_ok-new.ensures.at) c.requires.dials c.in_ok-new.ensures.new c.in_ok-new.ensures.stands

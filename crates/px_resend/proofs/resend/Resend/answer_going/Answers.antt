@@ -3,7 +3,6 @@ use Rattle.std.specs.Box.{with_value}
 use Rattle.px_stream.specs.Anywhere.{Somewhere}
 use Rattle.px_resend.specs.Stands.{terms_in}
 use Rattle.px_resend.proofs.GoingLemmas.{asks_all, somewhere, resumes_all, resumes_left}
-use Rattle.px_resend.proofs.ParkedLemmas.{has_no_home}
 use Rattle.px_resend.proofs.resend.Resend.answer_going.Goals as goal
 
 pub resume_anywhere-requires-clause-somewhere : goal.resume_anywhere-requires-clause-somewhere
@@ -12,7 +11,7 @@ resume_anywhere-requires-clause-somewhere c =
 
 pub returns-clause-resumes : goal.returns-clause-resumes
 returns-clause-resumes c =
-    resumes_all (terms_in c.args.self.now) c.args.self.now.request (has_no_home c.args.self.now.conv c.args.self.now.proxy) c.args.stream (with_value c.args.stream c.resume_anywhere.new.self) _ c.resume_anywhere.new.out.items c.args.out.now.items
+    resumes_all (terms_in c.args.self.now) c.args.self.now.request c.args.stream (with_value c.args.stream c.resume_anywhere.new.self) _ c.resume_anywhere.new.out.items c.args.out.now.items
     c.pass_on.new.out.items c.follow.new.out.items c.new-given.ensures.items c.in_ok-pass_on.ensures c.follow.result c.args.moment c.args.reply _
     c.deref_mut.ensures.value c.in_ok-resume_anywhere.ensures.resumes c.follow.ensures.follows
 

@@ -7,20 +7,20 @@ use Rattle.px_stack.specs.Stack.{visitor_of}
 pub returns-clause-inside : goal.returns-clause-inside
 returns-clause-inside c =
     inside_begun c.args.self.now.conv (visitor_of c.args.self.now) c.args.opening c.args.server c.args.rest c.args.moment (key_of c.means.result.mask_key) (sym c.means.ensures)
-    c.in_ok-made.made.value.stream c.in_ok-made.ensures.terms c.in_ok-made.ensures.numbers c.in_ok-made.ensures.parked
+    c.in_ok-made.made.value.stream c.in_ok-made.ensures.terms c.in_ok-made.ensures.at
     c.in_ok-http.http.value c.args.out.now.items c.begin_boxed.new.out.items c.follow.new.out.items
     c.in_ok-http.ensures.begins c.follow.result c.follow.ensures.follows
 
 pub returns-clause-asks : goal.returns-clause-asks
 returns-clause-asks c =
     inside_asks c.args.self.now.conv (visitor_of c.args.self.now) c.args.opening c.args.server c.args.rest c.args.moment (key_of c.means.result.mask_key) (sym c.means.ensures)
-    c.in_ok-made.made.value.stream c.in_ok-made.ensures.terms c.in_ok-made.ensures.numbers c.in_ok-made.ensures.parked
+    c.in_ok-made.made.value.stream c.in_ok-made.ensures.terms c.in_ok-made.ensures.at
     c.in_ok-http.http.value c.args.out.now.items c.begin_boxed.new.out.items c.follow.new.out.items
     c.in_ok-http.ensures.begins c.in_ok-http.ensures.asks c.follow.result c.follow.ensures.asks
 
 pub returns-clause-left : goal.returns-clause-left
 returns-clause-left c =
     inside_bound c.args.self.now.conv (visitor_of c.args.self.now) c.args.opening c.args.server c.args.rest c.args.moment (key_of c.means.result.mask_key) (sym c.means.ensures)
-    c.in_ok-made.made.value.stream c.in_ok-made.ensures.terms c.in_ok-made.ensures.numbers c.in_ok-made.ensures.parked
+    c.in_ok-made.made.value.stream c.in_ok-made.ensures.terms c.in_ok-made.ensures.at
     c.in_ok-http.http.value c.args.out.now.items c.begin_boxed.new.out.items c.follow.new.out.items
     c.in_ok-http.ensures.begins c.in_ok-made.ensures.new c.requires.few c.in_ok-http.ensures.left c.follow.result c.follow.ensures.follows

@@ -2,17 +2,16 @@ use Rattle.std.proofs.Common.{Bool, ap, ◌∙◌, subst}
 use Rattle.px_message.specs.declared.flow.Flow.{Flow}
 use Rattle.px_exchange.specs.Requests.{is_http11}
 use Rattle.px_stream.specs.Responses.{ReadsAnswer}
-use Rattle.px_stream.specs.declared.link.Link.{Link}
+use Rattle.px_stream.specs.Stands.{StaysOpen}
 use Rattle.px_stream.proofs.LookingLemmas.{answer_found}
 use Rattle.px_stream.proofs.looking.answer.look_for_answer.Goals as goal
 
 pub returns : goal.returns
 returns c =
-    let P : Bool → Type 0 = λ sends. ReadsAnswer c.in_ok-answer.answer sends c.args.link c.args.out.now.items c.read_answer.new.link c.read_answer.new.out.items in
-    let Q : Link → Type 0 = λ link. ReadsAnswer c.in_ok-answer.answer c.asks_http11-sends.result link c.args.out.now.items c.read_answer.new.link c.read_answer.new.out.items in
+    let P : Bool → Type 0 = λ sends. StaysOpen (λ link later. ReadsAnswer c.in_ok-answer.answer sends link c.args.out.now.items later c.read_side.new.out.items) c.args.side.now c.read_side.new.side in
     record {
-      looks = answer_found c.look_at_answer.result c.args.flow c.args.link c.read_answer.new.link c.args.now.moment c.args.now.client_closed
-          c.args.out.now.items c.read_answer.new.out.items c.look_at_answer.new.out.items _
-          (subst P (c.asks_http11-sends.ensures ∙ ap (λ (f : Flow). is_http11 f.request.version) c.deref.ensures) (subst Q c.deref_mut.ensures.value c.in_ok-answer.ensures))
+      looks = answer_found c.look_at_answer.result c.args.flow c.args.server c.args.side.now c.read_side.new.side c.args.now.moment c.args.now.parked c.args.now.client_closed
+          c.args.out.now.items c.read_side.new.out.items c.look_at_answer.new.out.items _
+          (subst P (c.asks_http11-sends.ensures ∙ ap (λ (f : Flow). is_http11 f.request.version) c.deref.ensures) c.in_ok-answer.ensures)
           c.look_at_answer.ensures.gives c.look_at_answer.ensures.phase;
     }

@@ -4,8 +4,7 @@ use Rattle.px_event.specs.Chain.{found}
 use Rattle.px_exchange.specs.declared.asked.Judged.{Judged}
 use Rattle.px_exchange.specs.Finds.{look_judged}
 use Rattle.px_exchange.specs.Requests.{expects, is_head, judged}
-use Rattle.px_stream.specs.Looking.{BehindJudged}
-use Rattle.px_stream.specs.Phases.{judged_phase}
+use Rattle.px_stream.specs.Looks.{BehindJudged, judged_phase}
 use Rattle.px_stream.proofs.looking.request.look_at_head.Goals as goal
 
 pub returns-clause-gives : goal.returns-clause-gives

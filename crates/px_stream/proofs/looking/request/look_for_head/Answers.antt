@@ -13,7 +13,7 @@ use Rattle.px_read.specs.declared.part.Part.TheVariants as given
 use Rattle.px_stream.specs.declared.phase.Phase.{Phase}
 use Rattle.px_exchange.specs.Endings.{shut_server}
 use Rattle.px_exchange.specs.Finds.{look_head, or_leaves}
-use Rattle.px_stream.specs.Phases.{head_phase}
+use Rattle.px_stream.specs.Looks.{head_phase}
 use Rattle.px_stream.proofs.ReadLemmas.{head_shown}
 use Rattle.px_stream.proofs.HeadLemmas.{always, gives_at, phase_at, gives_missing, shows_missing}
 use Rattle.px_stream.proofs.LookingLemmas.{fault_kept, head_kept, missing_kept}

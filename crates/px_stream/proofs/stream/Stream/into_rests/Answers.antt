@@ -1,20 +1,18 @@
-use Rattle.std.proofs.Common.{ℕ, List, Option, sym, subst}
-use Rattle.px_message.specs.declared.flow.Flow.{Flow}
+use Rattle.std.proofs.Common.{rules, ◌≡◌, ap, ◌∙◌, subst, sym}
+use Rattle.std.specs.Prelude.{IfOk}
 use Rattle.px_chain.specs.Chain.{look}
-use Rattle.px_chain.specs.Sights.{Sight}
-use Rattle.px_chain.specs.Stages.{Stage}
-use Rattle.px_stream.specs.Rests.{LeavesRests, phase_flow, phase_rest}
-use Rattle.px_stream.specs.Sequence.{seen_at, stage_at}
-use Rattle.px_stream.proofs.RestLemmas.{leaves_rests}
+use Rattle.px_chain.specs.Sights.{sight_over}
+use Rattle.px_stream.specs.Rests.{LeavesRests}
+use Rattle.px_stream.specs.Tells.{phase_flow, side_rest, uses_side}
+use Rattle.px_stream.proofs.RestLemmas.{rests_as, rests_there}
 use Rattle.px_stream.proofs.stream.Stream.into_rests.Goals as goal
 
-pub returns-clause-behind : goal.returns-clause-behind
-returns-clause-behind c onward made moves given stands =
-    let stage : Stage = stage_at onward made moves in
-    let seen : Sight = seen_at onward made moves in
-    let P : List ℕ → List ℕ → Option Flow → Type 0 = LeavesRests made.terms.place (look made.terms stage seen) stage seen in
-    let Q : List ℕ → Type 0 = λ client. P client (phase_rest c.args.self.phase) (phase_flow c.args.self.phase) in
-    let R : List ℕ → Type 0 = λ server. P c.in_ok-rests.rests.client server (phase_flow c.args.self.phase) in
-    let S : Option Flow → Type 0 = λ flow. P c.in_ok-rests.rests.client c.in_ok-rests.rests.server flow in
-    subst S (sym c.in_ok-rests.ensures.flow) (subst R (sym c.in_ok-rests.ensures.server)
-    (subst Q (sym c.in_ok-rests.ensures.client) (leaves_rests made.terms _ _ stage seen stands.place.is_in.phase)))
+pub returns-in-Ok-clause-behind : goal.returns-in-Ok-clause-behind
+returns-in-Ok-clause-behind c made ahead place prefix stands =
+    let server : c.in-Ok.server ≡ side_rest (uses_side c.args.self.phase) c.args.self.side = search rules in
+    let flow : c.upgraded_flow-flow.result ≡ phase_flow c.args.self.phase = search rules in
+    let there = subst (λ f. LeavesRests made.place (look made place.stage (sight_over place prefix)) place.stage (sight_over place prefix) c.args.self.requests.rest c.in-Ok.server f) (sym flow)
+    (subst (λ l. LeavesRests made.place (look made place.stage (sight_over place prefix)) place.stage (sight_over place prefix) c.args.self.requests.rest l (phase_flow c.args.self.phase)) (sym server)
+    (rests_there made ahead c.args.self place prefix stands)) in
+    rests_as c.rests_with.result _ _ _ (LeavesRests made.place (look made place.stage (sight_over place prefix)) place.stage (sight_over place prefix))
+    c.rests_with.ensures.client c.rests_with.ensures.server c.rests_with.ensures.flow there

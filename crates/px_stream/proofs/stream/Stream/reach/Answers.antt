@@ -1,30 +1,40 @@
+use Rattle.std.proofs.Common.{arith}
 use Rattle.std.proofs.lemmas.Result.{on_ok_weaker}
-use Rattle.px_stream.proofs.WaitLemmas.{dial_awaited}
-use Rattle.px_stream.proofs.ReachLemmas.{reach_agrees, reach_asks, reach_goes, reach_left, reach_looks}
+use Rattle.px_stream.proofs.CallLemmas.{few_asked, turn_taken}
+use Rattle.px_stream.proofs.WaitLemmas.{dial_awaited, reach_asks, reach_goes, reach_left, reach_looks, reach_unshut}
 use Rattle.px_stream.proofs.stream.Stream.reach.Goals as goal
 
 pub take_asked-asked-requires : goal.take_asked-asked-requires
 take_asked-asked-requires c = dial_awaited c.args.self.now.phase c.requires.waits
 
-pub hear_server-requires : goal.hear_server-requires
-hear_server-requires c = reach_agrees c.args.self.now c.turn.new.self _ c.args.moment c.take_asked-asked.result c.in_ok-turned.turned c.args.out.now.items c.turn.new.out.items
-    c.requires.waits c.take_asked-asked.ensures c.in_ok-turned.ensures c.requires.somewhere
+pub turn-requires : goal.turn-requires
+turn-requires c =
+    let few = few_asked c.args.self.now c.take_asked-asked.result c.take_asked-asked.ensures c.requires.somewhere in
+    record { few = few.few; dials = (let f = few.few in let d = few.dials in omega arith) }
+
+pub feed-requires : goal.feed-requires
+feed-requires c = reach_unshut c.args.self.now c.turn.new.self c.args.moment c.take_asked-asked.result c.in_ok-ready.ready c.args.out.now.items c.turn.new.out.items c.requires.waits c.take_asked-asked.ensures
+    (turn_taken c.args.self.now c.turn.new.self _ c.args.moment _ c.take_asked-asked.result c.in_ok-ready.ready c.args.out.now.items c.turn.new.out.items c.in_ok-ready.ensures) c.requires.somewhere
 
 pub advance-requires : goal.advance-requires
-advance-requires c = reach_looks c.args.self.now c.turn.new.self _ c.args.moment c.take_asked-asked.result c.in_ok-turned.turned c.args.out.now.items c.turn.new.out.items
-    c.requires.waits c.take_asked-asked.ensures c.in_ok-turned.ensures _ c.args.rest.now c.in-Ok.ensures c.requires.somewhere
+advance-requires c = reach_looks c.args.self.now c.turn.new.self c.args.moment c.take_asked-asked.result c.in_ok-ready.ready c.args.out.now.items c.turn.new.out.items c.requires.waits c.take_asked-asked.ensures
+    (turn_taken c.args.self.now c.turn.new.self _ c.args.moment _ c.take_asked-asked.result c.in_ok-ready.ready c.args.out.now.items c.turn.new.out.items c.in_ok-ready.ensures)
+    c.feed.new.side c.args.rest.now c.in-Ok.ensures c.requires.somewhere
 
 pub returns-in-Ok-clause-reaches : goal.returns-in-Ok-clause-reaches
 returns-in-Ok-clause-reaches c = on_ok_weaker c.advance.result
-    (λ once. reach_goes c.args.self.now c.turn.new.self _ c.args.moment c.take_asked-asked.result c.in_ok-turned.turned c.args.out.now.items c.turn.new.out.items
-    c.requires.waits c.take_asked-asked.ensures c.in_ok-turned.ensures _ c.args.rest.now c.in-Ok.ensures c.advance.new.self c.advance.new.out.items once c.requires.somewhere) c.advance.ensures
+    (λ once. reach_goes c.args.self.now c.turn.new.self c.args.moment c.take_asked-asked.result c.in_ok-ready.ready c.args.out.now.items c.turn.new.out.items c.requires.waits c.take_asked-asked.ensures
+    (turn_taken c.args.self.now c.turn.new.self _ c.args.moment _ c.take_asked-asked.result c.in_ok-ready.ready c.args.out.now.items c.turn.new.out.items c.in_ok-ready.ensures)
+    c.feed.new.side c.args.rest.now c.in-Ok.ensures c.advance.new.self c.advance.new.out.items once c.requires.somewhere) c.advance.ensures
 
 pub returns-in-Ok-clause-asks : goal.returns-in-Ok-clause-asks
 returns-in-Ok-clause-asks c = on_ok_weaker c.advance.result
-    (λ once. reach_asks c.args.self.now c.turn.new.self _ c.args.moment c.take_asked-asked.result c.in_ok-turned.turned c.args.out.now.items c.turn.new.out.items
-    c.requires.waits c.take_asked-asked.ensures c.in_ok-turned.ensures _ c.args.rest.now c.in-Ok.ensures c.advance.new.self c.advance.new.out.items once c.requires.somewhere) c.advance.ensures
+    (λ once. reach_asks c.args.self.now c.turn.new.self c.args.moment c.take_asked-asked.result c.in_ok-ready.ready c.args.out.now.items c.turn.new.out.items c.requires.waits c.take_asked-asked.ensures
+    (turn_taken c.args.self.now c.turn.new.self _ c.args.moment _ c.take_asked-asked.result c.in_ok-ready.ready c.args.out.now.items c.turn.new.out.items c.in_ok-ready.ensures)
+    c.feed.new.side c.args.rest.now c.in-Ok.ensures c.advance.new.self c.advance.new.out.items once c.requires.somewhere) c.advance.ensures
 
 pub returns-in-Ok-clause-left : goal.returns-in-Ok-clause-left
 returns-in-Ok-clause-left c = on_ok_weaker c.advance.result
-    (λ once. reach_left c.args.self.now c.turn.new.self _ c.args.moment c.take_asked-asked.result c.in_ok-turned.turned c.args.out.now.items c.turn.new.out.items
-    c.requires.waits c.take_asked-asked.ensures c.in_ok-turned.ensures _ c.args.rest.now c.in-Ok.ensures c.advance.new.self c.advance.new.out.items once c.requires.somewhere) c.advance.ensures
+    (λ once. reach_left c.args.self.now c.turn.new.self c.args.moment c.take_asked-asked.result c.in_ok-ready.ready c.args.out.now.items c.turn.new.out.items c.requires.waits c.take_asked-asked.ensures
+    (turn_taken c.args.self.now c.turn.new.self _ c.args.moment _ c.take_asked-asked.result c.in_ok-ready.ready c.args.out.now.items c.turn.new.out.items c.in_ok-ready.ensures)
+    c.feed.new.side c.args.rest.now c.in-Ok.ensures c.advance.new.self c.advance.new.out.items once c.requires.somewhere) c.advance.ensures

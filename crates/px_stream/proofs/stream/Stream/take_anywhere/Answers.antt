@@ -1,18 +1,45 @@
+use Rattle.std.proofs.Common.{◌≡◌, refl, sym, ap, ◌∙◌, false}
 use Rattle.std.proofs.lemmas.Result.{on_ok_weaker}
-use Rattle.px_stream.proofs.CallLemmas.{hears_anywhere, take_somewhere, take_somewhere_asks, take_somewhere_left}
+use Rattle.px_stream.specs.declared.phase.Phase.TheVariants as phase
+use Rattle.px_stream.specs.Stands.{is_last}
+use Rattle.px_stream.proofs.CallLemmas.{ended, heard_event, hears_anywhere, looks_heard, take_somewhere, take_somewhere_asks, take_somewhere_left}
 use Rattle.px_stream.proofs.stream.Stream.take_anywhere.Goals as goal
 
-pub take_event-requires-clause-free : goal.take_event-requires-clause-free
-take_event-requires-clause-free c = c.requires.free
+pub returns-then-self : goal.returns-then-self
+returns-then-self c =
+    let call = ended (sym c.ended-self.ensures ∙ c.if-self.true) refl refl in
+    record {
+      takes = take_somewhere c.args.self.now c.args.self.now c.args.moment c.args.event.now c.args.out.now.items c.args.out.now.items c.requires.somewhere call;
+      asks = take_somewhere_asks c.args.self.now c.args.self.now c.args.moment c.args.event.now c.args.out.now.items c.args.out.now.items c.requires.somewhere call;
+      left = take_somewhere_left c.args.self.now c.args.self.now c.args.moment c.args.event.now c.args.out.now.items c.args.out.now.items c.requires.somewhere call;
+    }
 
-pub take_event-requires-clause-may_hear : goal.take_event-requires-clause-may_hear
-take_event-requires-clause-may_hear c = hears_anywhere c.args.self.now c.args.event c.requires.somewhere
+pub take_looked-ready-requires : goal.take_looked-ready-requires
+take_looked-ready-requires c = c.requires.free
 
-pub returns-clause-takes : goal.returns-clause-takes
-returns-clause-takes c = on_ok_weaker c.take_event.result (take_somewhere c.args.self.now c.take_event.new.self c.args.moment c.args.event c.args.out.now.items c.take_event.new.out.items c.requires.somewhere) c.take_event.ensures
+pub hear-requires : goal.hear-requires
+hear-requires c =
+    let goes : is_last (phase.Ready c.take_looked-ready.result) ≡ false = ap is_last (sym c.take_looked-ready.ensures) ∙ (sym c.ended-self.ensures ∙ c.if-self.false) in
+    let may = hears_anywhere c.args.self.now c.args.event.now c.requires.somewhere c.take_looked-ready.result c.take_looked-ready.ensures goes in
+    record { open_still = may.open_still; agrees = may.agrees }
 
-pub returns-clause-asks : goal.returns-clause-asks
-returns-clause-asks c = on_ok_weaker c.take_event.result (take_somewhere_asks c.args.self.now c.take_event.new.self c.args.moment c.args.event c.args.out.now.items c.take_event.new.out.items c.requires.somewhere) c.take_event.ensures
+pub advance-requires : goal.advance-requires
+advance-requires c =
+    let goes : is_last (phase.Ready c.take_looked-ready.result) ≡ false = ap is_last (sym c.take_looked-ready.ensures) ∙ (sym c.ended-self.ensures ∙ c.if-self.false) in
+    let may = hears_anywhere c.args.self.now c.args.event.now c.requires.somewhere c.take_looked-ready.result c.take_looked-ready.ensures goes in
+    looks_heard c.args.self.now c.hear.new.self _ c.args.event.now c.take_looked-ready.result may c.in-Ok.ensures.hears
 
-pub returns-clause-left : goal.returns-clause-left
-returns-clause-left c = on_ok_weaker c.take_event.result (take_somewhere_left c.args.self.now c.take_event.new.self c.args.moment c.args.event c.args.out.now.items c.take_event.new.out.items c.requires.somewhere) c.take_event.ensures
+pub returns-in-Ok-clause-takes : goal.returns-in-Ok-clause-takes
+returns-in-Ok-clause-takes c = on_ok_weaker c.advance.result
+    (λ once. take_somewhere c.args.self.now c.advance.new.self c.args.moment c.args.event.now c.args.out.now.items c.advance.new.out.items c.requires.somewhere
+    (heard_event c.args.self.now c.hear.new.self c.advance.new.self _ c.args.moment c.args.event.now c.take_looked-ready.result c.args.out.now.items c.advance.new.out.items c.take_looked-ready.ensures (sym c.ended-self.ensures ∙ c.if-self.false) c.in-Ok.ensures.hears once)) c.advance.ensures
+
+pub returns-in-Ok-clause-asks : goal.returns-in-Ok-clause-asks
+returns-in-Ok-clause-asks c = on_ok_weaker c.advance.result
+    (λ once. take_somewhere_asks c.args.self.now c.advance.new.self c.args.moment c.args.event.now c.args.out.now.items c.advance.new.out.items c.requires.somewhere
+    (heard_event c.args.self.now c.hear.new.self c.advance.new.self _ c.args.moment c.args.event.now c.take_looked-ready.result c.args.out.now.items c.advance.new.out.items c.take_looked-ready.ensures (sym c.ended-self.ensures ∙ c.if-self.false) c.in-Ok.ensures.hears once)) c.advance.ensures
+
+pub returns-in-Ok-clause-left : goal.returns-in-Ok-clause-left
+returns-in-Ok-clause-left c = on_ok_weaker c.advance.result
+    (λ once. take_somewhere_left c.args.self.now c.advance.new.self c.args.moment c.args.event.now c.args.out.now.items c.advance.new.out.items c.requires.somewhere
+    (heard_event c.args.self.now c.hear.new.self c.advance.new.self _ c.args.moment c.args.event.now c.take_looked-ready.result c.args.out.now.items c.advance.new.out.items c.take_looked-ready.ensures (sym c.ended-self.ensures ∙ c.if-self.false) c.in-Ok.ensures.hears once)) c.advance.ensures

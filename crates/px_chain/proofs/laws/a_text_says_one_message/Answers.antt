@@ -1,8 +1,0 @@
-use Rattle.px_chain.proofs.SaysOne.{one_request, one_response}
-use Rattle.px_chain.proofs.laws.a_text_says_one_message.Goals as goal
-
-pub returns-clause-requests : goal.returns-clause-requests
-returns-clause-requests c = one_request
-
-pub returns-clause-responses : goal.returns-clause-responses
-returns-clause-responses c = one_response

@@ -1,5 +1,0 @@
-use Rattle.px_chain.proofs.SaysAll.{all_said}
-use Rattle.px_chain.proofs.laws.what_is_sent_says_what_was_read.Goals as goal
-
-pub returns : goal.returns
-returns c = record { in_order = all_said }

@@ -1,0 +1,366 @@
+-- Each flow that is asked about begins where the walk comes by a place where a request is awaited.
+use Rattle.std.proofs.Common.{◌≡◌, ℕ, Bool, true, false, List, [], ◌∷◌, ◌++◌, map, Option, Some, None, refl, ap, sym, ◌∙◌, subst, append_assoc}
+use Rattle.std.specs.Prelude.{⊤, if◌then◌else◌, not}
+use Rattle.std.proofs.lemmas.List.{append-nil}
+use Rattle.px_message.specs.declared.fault.Fault.TheVariants.{BadResponse}
+use Rattle.px_message.specs.declared.flow.Flow.{Flow}
+use Rattle.px_message.specs.declared.response.Response.{Response}
+use Rattle.px_event.specs.declared.ask.Ask.{Ask}
+use Rattle.px_event.specs.declared.ask.Ask.TheVariants as asks
+use Rattle.px_event.specs.declared.ask.Hook.TheVariants.{RequestHead, ResponseHead}
+use Rattle.px_event.specs.declared.command.Command.{Command}
+use Rattle.px_event.specs.declared.command.Command.TheVariants as commands
+use Rattle.px_event.specs.declared.event.Event.{Event}
+use Rattle.px_event.specs.declared.reply.Reply.{Reply}
+use Rattle.px_event.specs.Chain.{Asks, Chain, Ends, Look, NotYet, Reached, Stamp, Stamped, Stop, Timed, at_its_step, found_with, owed_at, reach, reach_by, stop_at, walk, walk_by, worked_off}
+use Rattle.px_read.specs.Items.{Item, bad_body, bad_head, complete, missing, part}
+use Rattle.px_read.specs.declared.head.RequestHead.{RequestHead as ReadRequest}
+use Rattle.px_read.specs.declared.head.ResponseHead.{ResponseHead as ReadResponse}
+use Rattle.px_exchange.specs.EndOrder.{EndsInOrder, FoundInOrder, OnlyCloses}
+use Rattle.px_exchange.specs.Endings.{ends_by_fault}
+use Rattle.px_exchange.specs.Finds.{is_relayed, look_answer, look_body, look_head, look_judged, look_returned, or_leaves}
+use Rattle.px_exchange.specs.Flows.{ask_of, response_of, with_answer}
+use Rattle.px_exchange.specs.Requests.{judged}
+use Rattle.px_exchange.specs.Texts.{interim_command, sends_on}
+use Rattle.px_exchange.specs.declared.asked.Judged.{Judged}
+use Rattle.px_exchange.specs.declared.asked.Judged.TheVariants.{Accepted, Connects, Refused}
+use Rattle.px_exchange.specs.declared.ending.Used.{Used}
+use Rattle.px_exchange.specs.declared.terms.Terms.{Terms}
+use Rattle.px_exchange.specs.Requests.{is_http11}
+use Rattle.px_chain.specs.Chain.{http_chain, leaving, look, pass, pass_body, sequence, so_far}
+use Rattle.px_chain.specs.Sights.{Sight, Standing, answers_in, request_in, server_in, server_parked, sight_over}
+use Rattle.px_chain.specs.Stages.{At, Stage, busy, connection, given_body, given_head, idle, next, over, request_body, response_body, response_head, upgraded}
+use Rattle.px_said.specs.Walks.{ComesBy, FlowBegins, Walk, behind_reply, due_by_reply, due_from, goes_on, is_there}
+use Rattle.px_said.proofs.ClosedTurns.{asks_nothing, asks_same, ends_ask}
+use Rattle.px_said.proofs.ClosedWalk.{walk_behind}
+use Rattle.px_chain.proofs.EndLemmas.{behind_closes, looks_in_order, turns_in_order}
+use Rattle.px_read.specs.declared.head.ResponseHead.{ResponseHead as AnswerHead}
+
+-- ---- commands without a question of a hook
+
+abbrev AsksNone : List Command → Type 0
+AsksNone [] = ⊤
+AsksNone (commands.Ask asked flow ∷ rest) = ⊥
+AsksNone (commands.Send side text ∷ rest) = AsksNone rest
+AsksNone (commands.Dial server address inside ∷ rest) = AsksNone rest
+AsksNone (commands.Close side ∷ rest) = AsksNone rest
+AsksNone (commands.Done flow ∷ rest) = AsksNone rest
+
+closes_ask : (owed : List Command) → OnlyCloses owed → AsksNone owed
+closes_ask [] is = tt
+closes_ask (commands.Close side ∷ owed) is = closes_ask owed is
+closes_ask (commands.Send side text ∷ owed) is = absurd is
+closes_ask (commands.Done flow ∷ owed) is = absurd is
+closes_ask (commands.Ask asked flow ∷ owed) is = absurd is
+closes_ask (commands.Dial server address inside ∷ owed) is = absurd is
+
+ends_none : (owed : List Command) → EndsInOrder owed → AsksNone owed
+ends_none [] is = tt
+ends_none (commands.Close side ∷ owed) is = closes_ask owed is
+ends_none (commands.Send side text ∷ owed) is = ends_none owed is
+ends_none (commands.Done flow ∷ owed) is = closes_ask owed is
+ends_none (commands.Ask asked flow ∷ owed) is = absurd is
+ends_none (commands.Dial server address inside ∷ owed) is = absurd is
+
+both_none : (first second : List Command) → AsksNone first → AsksNone second → AsksNone (first ++ second)
+both_none [] second none more = more
+both_none (commands.Ask asked flow ∷ first) second none more = absurd none
+both_none (commands.Send side text ∷ first) second none more = both_none first second none more
+both_none (commands.Dial server address inside ∷ first) second none more = both_none first second none more
+both_none (commands.Close side ∷ first) second none more = both_none first second none more
+both_none (commands.Done flow ∷ first) second none more = both_none first second none more
+
+interim_none : (heads : List AnswerHead) → AsksNone (map interim_command heads)
+interim_none [] = tt
+interim_none (head ∷ heads) = interim_none heads
+
+interim_if : (knows : Bool) (heads : List AnswerHead) → AsksNone (sends_on knows heads)
+interim_if true heads = interim_none heads
+interim_if false heads = tt
+
+so_far_none : (stage : Stage) (seen : Sight) → AsksNone (so_far stage seen)
+so_far_none (idle at) seen = tt
+so_far_none (busy at flow (request_body given)) seen = tt
+so_far_none (busy at flow connection) seen = tt
+so_far_none (busy at flow (response_head side how)) seen = interim_if (is_http11 flow.request.version) (answers_in flow.request seen).interim
+so_far_none (busy at flow (response_body side how)) seen = tt
+so_far_none (busy at flow (upgraded side)) seen = tt
+so_far_none (busy at flow given_head) seen = tt
+so_far_none (busy at flow given_body) seen = tt
+so_far_none (next at) seen = tt
+so_far_none over seen = tt
+
+first_none : (command : Command) (rest : List Command) (asked : Ask) (flow : Flow) → AsksNone (command ∷ rest) → commands.Ask asked flow ≡ command → ⊥
+first_none (commands.Ask other its) rest asked flow none is = none
+first_none (commands.Send side text) rest asked flow none is = cc
+first_none (commands.Dial server address inside) rest asked flow none is = cc
+first_none (commands.Close side) rest asked flow none is = cc
+first_none (commands.Done other) rest asked flow none is = cc
+
+rest_none : (command : Command) (rest : List Command) → AsksNone (command ∷ rest) → AsksNone rest
+rest_none (commands.Ask other its) rest none = absurd none
+rest_none (commands.Send side text) rest none = none
+rest_none (commands.Dial server address inside) rest none = none
+rest_none (commands.Close side) rest none = none
+rest_none (commands.Done other) rest none = none
+
+head_same : (a b : Command) (left right : List Command) → a ∷ left ≡ b ∷ right → a ≡ b
+head_same a b left right is = cc
+
+tail_same : (a b : Command) (left right : List Command) → a ∷ left ≡ b ∷ right → left ≡ right
+tail_same a b left right is = cc
+
+-- a question stands behind commands that have none
+record StandsBehind (quiet rest before behind : List Command) (question : Command) : Type 0 where
+  pub middle : List Command
+  pub front : before ≡ quiet ++ middle
+  pub is : middle ++ question ∷ behind ≡ rest
+
+behind_quiet : (quiet rest before behind : List Command) (asked : Ask) (flow : Flow) → AsksNone quiet → before ++ commands.Ask asked flow ∷ behind ≡ quiet ++ rest →
+    StandsBehind quiet rest before behind (commands.Ask asked flow)
+behind_quiet [] rest before behind asked flow none is = record { middle = before; front = refl; is = is }
+behind_quiet (command ∷ quiet) rest [] behind asked flow none is =
+    absurd (first_none command quiet asked flow none (head_same (commands.Ask asked flow) command behind (quiet ++ rest) is))
+behind_quiet (command ∷ quiet) rest (first ∷ before) behind asked flow none is =
+    let further = behind_quiet quiet rest before behind asked flow (rest_none command quiet none)
+    (tail_same first command (before ++ commands.Ask asked flow ∷ behind) (quiet ++ rest) is) in
+    let same = head_same first command (before ++ commands.Ask asked flow ∷ behind) (quiet ++ rest) is in
+    record { middle = further.middle; front = ap (λ l. first ∷ l) further.front ∙ ap (λ c. c ∷ (quiet ++ further.middle)) same; is = further.is }
+
+nothing_behind : (middle behind : List Command) (question : Command) → middle ++ question ∷ behind ≡ [] → ⊥
+nothing_behind [] behind question is = let no : question ∷ behind ≡ [] = is in cc
+nothing_behind (first ∷ middle) behind question is = let no : first ∷ (middle ++ question ∷ behind) ≡ [] = is in cc
+
+-- what stands in front of it, where a reply was brought between
+more_begins : (before waiting brought middle owed : List Command) (ask : Command) (rest : List Command) → before ≡ waiting ++ ask ∷ rest → rest ≡ brought ++ middle → owed ≡ [] →
+    before ≡ (owed ++ (waiting ++ ask ∷ brought)) ++ middle
+more_begins before waiting brought middle owed ask rest front second none =
+    front
+    ∙ (ap (λ l. waiting ++ ask ∷ l) second
+    ∙ (sym (append_assoc waiting (ask ∷ brought) middle)
+    ∙ ap (λ b. (b ++ (waiting ++ ask ∷ brought)) ++ middle) (sym none)))
+
+module _ (terms : Terms) (index : ℕ) (flow : Flow) where
+  -- the question about a request's head
+  abbrev question : Command
+  question = commands.Ask (asks.Hook index RequestHead) flow
+
+  -- ---- who asks it
+
+  pub record AsksAt (stage : Stage) : Type 0 where
+    pub at : At
+    pub is : stage ≡ idle at
+    pub number : at.flow ≡ index
+
+  judged_index : (number : ℕ) (head : ReadRequest) (made : Judged) (leaving : List Command) (moment : ℕ) (parked : Used) (closed : Bool) → or_leaves closed leaving (look_judged terms number head made moment parked closed) ≡ Asks question →
+      number ≡ index
+  judged_index number head (Refused fault) leaving moment parked closed is = absurd (ends_ask _ question is)
+  judged_index number head (Connects address) leaving moment parked closed is = absurd (ends_ask _ question is)
+  judged_index number head (Accepted request) leaving moment parked closed is = let same = asks_same _ question is in cc
+
+  head_index : (number : ℕ) (item : Item ReadRequest) (leaving : List Command) (moment : ℕ) (parked : Used) (closed : Bool) → or_leaves closed leaving (look_head terms number item moment parked closed) ≡ Asks question → number ≡ index
+  head_index number missing leaving moment parked closed is = absurd (asks_nothing closed leaving question is)
+  head_index number (part head body) leaving moment parked closed is = judged_index number head (judged terms.place head) leaving moment parked closed is
+  head_index number (complete head body trailers used) leaving moment parked closed is = judged_index number head (judged terms.place head) leaving moment parked closed is
+  head_index number (bad_head fault) leaving moment parked closed is = absurd (ends_ask _ question is)
+  head_index number (bad_body fault head body) leaving moment parked closed is = judged_index number head (judged terms.place head) leaving moment parked closed is
+
+  body_asks : (told : Flow) (leaving : List Command) (item : Item ReadRequest) (moment : ℕ) (parked : Used) (closed : Bool) → or_leaves closed leaving (look_body told item moment parked closed) ≡ Asks question → ⊥
+  body_asks told leaving missing moment parked closed is = asks_nothing closed leaving question is
+  body_asks told leaving (part head body) moment parked closed is = asks_nothing closed leaving question is
+  body_asks told leaving (complete head body trailers used) moment parked closed is = let same = asks_same _ question is in cc
+  body_asks told leaving (bad_head fault) moment parked closed is = asks_nothing closed leaving question is
+  body_asks told leaving (bad_body fault head body) moment parked closed is = ends_ask _ question is
+
+  relayed_asks : (relays : Bool) (told : Flow) (leaving : List Command) (head : ReadResponse) (moment : ℕ) (used : Used) (closed : Bool) →
+      or_leaves closed leaving (if not relays then Ends (ends_by_fault told BadResponse moment used closed) else Asks (ask_of (with_answer told (response_of head) moment) ResponseHead))
+      ≡ Asks question → ⊥
+  relayed_asks true told leaving head moment used closed is = let same = asks_same _ question is in cc
+  relayed_asks false told leaving head moment used closed is = ends_ask _ question is
+
+  answer_asks : (told : Flow) (leaving : List Command) (item : Item ReadResponse) (moment : ℕ) (used : Used) (closed : Bool) →
+      or_leaves closed leaving (look_answer told item moment used closed) ≡ Asks question → ⊥
+  answer_asks told leaving missing moment used closed is = asks_nothing closed leaving question is
+  answer_asks told leaving (part head body) moment used closed is = relayed_asks (is_relayed head.code) told leaving head moment used closed is
+  answer_asks told leaving (complete head body trailers size) moment used closed is = relayed_asks (is_relayed head.code) told leaving head moment used closed is
+  answer_asks told leaving (bad_head fault) moment used closed is = ends_ask _ question is
+  answer_asks told leaving (bad_body fault head body) moment used closed is = relayed_asks (is_relayed head.code) told leaving head moment used closed is
+
+  returned_asks : (told : Flow) (leaving : List Command) (item : Item ReadResponse) (moment : ℕ) (used : Used) (closed : Bool) →
+      or_leaves closed leaving (look_returned told item moment used closed) ≡ Asks question → ⊥
+  returned_asks told leaving missing moment used closed is = asks_nothing closed leaving question is
+  returned_asks told leaving (part head body) moment used closed is = asks_nothing closed leaving question is
+  returned_asks told leaving (complete head body trailers size) moment used closed is = let same = asks_same _ question is in cc
+  returned_asks told leaving (bad_head fault) moment used closed is = asks_nothing closed leaving question is
+  returned_asks told leaving (bad_body fault head body) moment used closed is = ends_ask _ question is
+
+  asks_at : (stage : Stage) (seen : Sight) → look terms stage seen ≡ Asks question → AsksAt stage
+  asks_at (idle at) seen is = record { at = at; is = refl; number = head_index at.flow (request_in seen) _ seen.now (server_parked at.parked seen) seen.closed is }
+  asks_at (busy at told (request_body given)) seen is = absurd (body_asks told _ (request_in seen) seen.now (server_parked at.parked seen) seen.closed is)
+  asks_at (busy at told connection) seen is = absurd (let same = asks_same _ question is in cc)
+  asks_at (busy at told (response_head side how)) seen is = absurd (answer_asks told _ (answers_in told.request seen).final seen.now (server_in side seen) seen.closed is)
+  asks_at (busy at told (response_body side how)) seen is = absurd (returned_asks told _ (answers_in told.request seen).final seen.now (server_in side seen) seen.closed is)
+  asks_at (busy at told (upgraded side)) seen is = absurd (ends_ask _ question is)
+  asks_at (busy at told given_head) seen is = absurd (let same = asks_same _ question is in cc)
+  asks_at (busy at told given_body) seen is = absurd (let same = asks_same _ question is in cc)
+  asks_at (next at) seen is = absurd (ends_ask _ question is)
+  asks_at over seen is = absurd (ends_ask _ question is)
+
+  -- ---- where the search for it began
+
+  body_passed : (at : At) (told : Flow) (given : Option Response) (item : Item ReadRequest) (now : ℕ) (there : At) → pass_body at told given item now ≡ idle there → ⊥
+  body_passed at told None missing now there is = cc
+  body_passed at told None (part head body) now there is = cc
+  body_passed at told None (complete head body trailers used) now there is = cc
+  body_passed at told None (bad_head fault) now there is = cc
+  body_passed at told None (bad_body fault head body) now there is = cc
+  body_passed at told (Some response) missing now there is = cc
+  body_passed at told (Some response) (part head body) now there is = cc
+  body_passed at told (Some response) (complete head body trailers used) now there is = cc
+  body_passed at told (Some response) (bad_head fault) now there is = cc
+  body_passed at told (Some response) (bad_body fault head body) now there is = cc
+
+  pass_idle : (stage : Stage) (seen : Sight) (there : At) → pass stage seen ≡ idle there → stage ≡ idle there
+  pass_idle (idle at) seen there is = is
+  pass_idle (busy at told (request_body given)) seen there is = absurd (body_passed at told given (request_in seen) seen.now there is)
+  pass_idle (busy at told connection) seen there is = is
+  pass_idle (busy at told (response_head side how)) seen there is = is
+  pass_idle (busy at told (response_body side how)) seen there is = is
+  pass_idle (busy at told (upgraded side)) seen there is = is
+  pass_idle (busy at told given_head) seen there is = is
+  pass_idle (busy at told given_body) seen there is = is
+  pass_idle (next at) seen there is = is
+  pass_idle over seen there is = is
+
+  abbrev chain : Chain Standing Event Reply Command
+  chain = http_chain sequence terms
+
+  -- nothing was owed by the search, and it began where it ended if a request is awaited there
+  record Searched (from : Stage) (here : Reached Standing Event Command) : Type 0 where
+    pub none : here.before ≡ []
+    pub idle : (there : At) → here.stage.stage ≡ idle there → from ≡ idle there
+
+  searched_by : (from : Stage) (l : Look Command) (further here : Reached Standing Event Command) → Searched from further → Searched from here → Searched from (reach_by l further here)
+  searched_by from NotYet further here on at = on
+  searched_by from (Asks ask) further here on at = at
+  searched_by from (Ends owed) further here on at = at
+
+  searched : (last : Stamp) (before : List Command) (s : Standing) (f : List (Timed Event)) (es : List (Stamped Event)) → before ≡ [] → Searched s.stage (reach chain last before s f es)
+  searched last before s f [] none = record { none = append-nil before ∙ none; idle = pass_idle s.stage (sight_over s f) }
+  searched last before s f (e ∷ es) none =
+      let still = append-nil before ∙ none in
+      let on = (chain.pass s f).stage in
+      let further = searched last (before ++ []) on (f ++ worked_off last e ∷ []) es still in
+      searched_by s.stage (chain.look on f) _ _
+      (record { none = further.none; idle = λ there is. pass_idle s.stage (sight_over s f) there (further.idle there is) })
+      (record { none = still; idle = pass_idle s.stage (sight_over s f) })
+
+  -- ---- the walk
+
+  idle_owes : (stage : Stage) (seen : Sight) (at : At) → stage ≡ idle at → so_far stage seen ≡ []
+  idle_owes stage seen at is = ap (λ s. so_far s seen) is
+
+  module _ (here : Walk) (before behind : List Command) where
+    abbrev reached : Reached Standing Event Command
+    reached = reach chain here.last [] here.place here.prefix here.coming
+
+    abbrev waits : List Command
+    waits = chain.so_far reached.stage reached.prefix
+
+    abbrev parts : List Command
+    parts = chain.behind reached.stage reached.prefix
+
+    -- the closes behind an ask have none
+    parts_none : AsksNone parts
+    parts_none = closes_ask parts (behind_closes reached.stage.stage (sight_over reached.stage reached.prefix))
+
+    -- it is what is asked there
+    begins_here : (ask : Command) → chain.look reached.stage reached.prefix ≡ Asks ask → ask ≡ question → before ≡ waits ++ [] → FlowBegins terms here before index
+    begins_here ask asks same is =
+        let search = searched here.last [] here.place here.prefix here.coming refl in
+        let there = asks_at reached.stage.stage (sight_over reached.stage reached.prefix) (asks ∙ ap Asks same) in
+        record {
+          there = here;
+          at = there.at;
+          awaits = search.idle there.at there.is;
+          flow = there.number;
+          comes = subst (ComesBy terms here here) (sym (is ∙ (append-nil waits ∙ idle_owes reached.stage.stage (sight_over reached.stage reached.prefix) there.at there.is)))
+              (is_there here);
+        }
+
+    by_asked : (ask : Command) (middle rest : List Command) → chain.look reached.stage reached.prefix ≡ Asks ask → before ≡ waits ++ middle → middle ++ question ∷ behind ≡ ask ∷ rest →
+        ((more : List Command) → before ≡ waits ++ ask ∷ more → more ++ question ∷ behind ≡ rest → FlowBegins terms here before index) → FlowBegins terms here before index
+    by_asked ask [] rest asks front is further = begins_here ask asks (sym (head_same question ask behind rest is)) front
+    by_asked ask (first ∷ more) rest asks front is further =
+        further more (front ∙ ap (λ c. waits ++ c ∷ more) (head_same first ask (more ++ question ∷ behind) rest is)) (tail_same first ask (more ++ question ∷ behind) rest is)
+
+    -- where it stopped
+    by_found : (l : Look Command) → chain.look reached.stage reached.prefix ≡ l → FoundInOrder l → waits ++ found_with parts l ≡ before ++ question ∷ behind → FlowBegins terms here before index
+    by_found NotYet looks order is =
+        let split = behind_quiet waits [] before behind _ flow (so_far_none reached.stage.stage (sight_over reached.stage reached.prefix)) (sym is) in
+        absurd (nothing_behind split.middle behind question split.is)
+    by_found (Asks ask) looks order is =
+        let split = behind_quiet waits (ask ∷ parts) before behind _ flow (so_far_none reached.stage.stage (sight_over reached.stage reached.prefix)) (sym is) in
+        by_asked ask split.middle parts looks split.front split.is
+        (λ more front left.
+        let none = behind_quiet parts [] more behind _ flow parts_none (left ∙ sym (append-nil parts)) in
+        absurd (nothing_behind none.middle behind question none.is))
+    by_found (Ends owed) looks order is =
+        let split = behind_quiet waits owed before behind _ flow (so_far_none reached.stage.stage (sight_over reached.stage reached.prefix)) (sym is) in
+        let none = behind_quiet owed [] split.middle behind _ flow (ends_none owed order) (split.is ∙ sym (append-nil owed)) in
+        absurd (nothing_behind none.middle behind question none.is)
+
+    stopped : (unused : List (Stamped Reply)) → owed_at chain (stop_at here.last reached unused) ≡ before ++ question ∷ behind → FlowBegins terms here before index
+    stopped unused is =
+        let search = searched here.last [] here.place here.prefix here.coming refl in
+        let P : List Command → Type 0 = λ b. b ++ (waits ++ found_with parts (chain.look reached.stage reached.prefix)) ≡ before ++ question ∷ behind in
+        by_found (chain.look reached.stage reached.prefix) refl (looks_in_order terms reached.stage.stage (sight_over reached.stage reached.prefix)) (subst P search.none is)
+
+    by_walk : (l : Look Command) → chain.look reached.stage reached.prefix ≡ l → (onward : Command → Stop Standing Event Reply Command) (unused : List (Stamped Reply)) →
+        ((ask : Command) → chain.look reached.stage reached.prefix ≡ Asks ask → owed_at chain (onward ask) ≡ before ++ question ∷ behind → FlowBegins terms here before index) →
+        owed_at chain (walk_by l onward (stop_at here.last reached unused)) ≡ before ++ question ∷ behind → FlowBegins terms here before index
+    by_walk NotYet looks onward unused on is = stopped unused is
+    by_walk (Asks ask) looks onward unused on is = on ask looks is
+    by_walk (Ends owed) looks onward unused on is = stopped unused is
+
+  begins : (rs : List (Stamped Reply)) (last : Stamp) (s : Standing) (f : List (Timed Event)) (es : List (Stamped Event)) (before behind : List Command) →
+      owed_at chain (walk chain rs last [] s f es) ≡ before ++ question ∷ behind →
+      FlowBegins terms (record { place = s; prefix = f; coming = es; replies = rs; last = last }) before index
+  begins [] last s f es before behind is = stopped (record { place = s; prefix = f; coming = es; replies = []; last = last }) before behind [] is
+  begins (r ∷ rs) last s f es before behind is =
+      let here : Walk = record { place = s; prefix = f; coming = es; replies = r ∷ rs; last = last } in
+      let there = reach chain last [] s f es in
+      let search = searched last [] s f es refl in
+      let on = chain.turn there.stage there.prefix (at_its_step r) in
+      let waiting = chain.so_far there.stage there.prefix in
+      let brought = chain.behind there.stage there.prefix ++ on.owed in
+      let none_asked : AsksNone brought = both_none (chain.behind there.stage there.prefix) on.owed
+      (closes_ask (chain.behind there.stage there.prefix) (behind_closes there.stage.stage (sight_over there.stage there.prefix)))
+      (ends_none on.owed (turns_in_order terms there.stage.stage (sight_over there.stage there.prefix) (at_its_step r))) in
+      by_walk here before behind (chain.look there.stage there.prefix) refl _ (r ∷ rs)
+      (λ ask asks due.
+      let more = waiting ++ ask ∷ brought in
+      let tail = owed_at chain (walk chain rs r.stamp [] on.stage there.prefix there.rest) in
+      let split : owed_at chain (walk chain rs r.stamp (there.before ++ more) on.stage there.prefix there.rest) ≡ waiting ++ (ask ∷ (brought ++ tail)) =
+      ap (λ b. owed_at chain (walk chain rs r.stamp (b ++ more) on.stage there.prefix there.rest)) search.none
+      ∙ (ap (λ b. owed_at chain (walk chain rs r.stamp b on.stage there.prefix there.rest)) (sym (append-nil more))
+      ∙ (walk_behind chain more rs r.stamp [] on.stage there.prefix there.rest ∙ append_assoc waiting (ask ∷ brought) tail)) in
+      let first = behind_quiet waiting (ask ∷ (brought ++ tail)) before behind _ flow (so_far_none there.stage.stage (sight_over there.stage there.prefix)) (sym due ∙ split) in
+      by_asked here before behind ask first.middle (brought ++ tail) asks first.front first.is
+      (λ rest front left.
+      let second = behind_quiet brought tail rest behind _ flow none_asked left in
+      let further = begins rs r.stamp on.stage there.prefix there.rest second.middle behind (sym second.is) in
+      record {
+        there = further.there;
+        at = further.at;
+        awaits = further.awaits;
+        flow = further.flow;
+        comes = subst (ComesBy terms here further.there) (sym (more_begins before waiting brought second.middle there.before ask rest front second.front search.none))
+            (goes_on here (behind_reply terms here r rs) further.there (due_by_reply terms here ask r) second.middle
+            (record { ask = ask; asks = asks; reply = r; replies = rs; answers = refl; leads = refl; owes = refl }) further.comes);
+      }))
+      is
+
+pub flow_begins : (terms : Terms) (here : Walk) (before behind : List Command) (index : ℕ) (flow : Flow) →
+    due_from terms here ≡ before ++ commands.Ask (asks.Hook index RequestHead) flow ∷ behind → FlowBegins terms here before index
+flow_begins terms here before behind index flow is = begins terms index flow here.replies here.last here.place here.prefix here.coming before behind is

@@ -1,0 +1,102 @@
+-- A walk over flows in sequence, from any place on: that of a conversation, of HTTP in a tunnel, or what is left of either behind some
+-- replies. So each flow begins where a walk comes by.
+use Rattle.std.specs.Prelude.{◌≡◌, ℕ, false, List, [], ◌∷◌, ◌++◌, length, map}
+use Rattle.px_event.specs.declared.command.Command.{Command}
+use Rattle.px_event.specs.declared.event.Event.{Event}
+use Rattle.px_event.specs.declared.reply.Reply.{Reply}
+use Rattle.px_event.specs.Chain.{Asks, Reached, Stamp, Stamped, Timed, at_its_step, never, owed_at, reach, walk}
+use Rattle.px_event.specs.Layer.{Move}
+use Rattle.px_event.specs.Stands.{events_in, replies_in}
+use Rattle.px_exchange.specs.declared.terms.Terms.{Terms}
+use Rattle.px_chain.specs.Chain.{http_chain, sequence}
+use Rattle.px_said.specs.ClosedForm.{Point, dial_answers}
+use Rattle.px_chain.specs.Sights.{Standing, used_behind}
+use Rattle.px_chain.specs.Stages.{At, idle, side_parked}
+
+-- where it begins: its place, over so many events, those that come then, the replies from there on, and the step of the last one before
+pub record Walk : Type 0 where
+  pub place : Standing
+  pub prefix : List (Timed Event)
+  pub coming : List (Stamped Event)
+  pub replies : List (Stamped Reply)
+  pub last : Stamp
+
+-- the walk of a conversation by these moves, from this place on
+abbrev pub by_moves : Standing → List Move → Walk
+by_moves place moves = record { place = place; prefix = []; coming = events_in 1 moves; replies = replies_in 1 moves; last = never }
+
+-- all that is heard, of what is before it too
+abbrev pub heard : Walk → List (Timed Event)
+heard here = here.prefix ++ map at_its_step here.coming
+
+-- the replies from here on
+abbrev pub answered : Walk → List Reply
+answered here = map (λ r. r.value) here.replies
+
+-- what is due from here on
+abbrev pub due_from : Terms → Walk → List Command
+due_from terms here =
+    let chain = http_chain sequence terms in owed_at chain (walk chain here.replies here.last [] here.place here.prefix here.coming)
+
+-- where the request stands that is awaited here
+abbrev pub point_at : At → Walk → Point
+point_at at here = record {
+  flow = at.flow;
+  server = at.dials;
+  bytes = here.place.used.client;
+  events = length here.prefix;
+  dials = dial_answers (answered here);
+  parked = at.parked;
+  opened = here.place.opened;
+  used = used_behind false (side_parked at.parked) here.place.used.server;
+}
+
+-- ---- where a walk comes by
+
+-- the place at which it asks, or ends, or waits
+abbrev pub reached_from : Terms → Walk → Reached Standing Event Command
+reached_from terms here = reach (http_chain sequence terms) here.last [] here.place here.prefix here.coming
+
+-- where the walk goes on from behind a reply to what is asked there
+abbrev pub behind_reply : Terms → Walk → Stamped Reply → List (Stamped Reply) → Walk
+behind_reply terms here reply replies =
+    let there = reached_from terms here in
+    record {
+      place = ((http_chain sequence terms).turn there.stage there.prefix (at_its_step reply)).stage;
+      prefix = there.prefix;
+      coming = there.rest;
+      replies = replies;
+      last = reply.stamp;
+    }
+
+-- what is due by then
+abbrev pub due_by_reply : Terms → Walk → Command → Stamped Reply → List Command
+due_by_reply terms here ask reply =
+    let there = reached_from terms here in
+    there.before ++ ((http_chain sequence terms).so_far there.stage there.prefix
+    ++ ask ∷ ((http_chain sequence terms).behind there.stage there.prefix
+    ++ ((http_chain sequence terms).turn there.stage there.prefix (at_its_step reply)).owed))
+
+-- One reply on.
+pub record IsOneReplyOn (terms : Terms) (here next : Walk) (due : List Command) : Type 0 where
+  pub ask : Command
+  pub asks : (http_chain sequence terms).look (reached_from terms here).stage (reached_from terms here).prefix ≡ Asks ask
+  pub reply : Stamped Reply
+  pub replies : List (Stamped Reply)
+  pub answers : here.replies ≡ reply ∷ replies
+  pub leads : next ≡ behind_reply terms here reply replies
+  pub owes : due ≡ due_by_reply terms here ask reply
+
+-- The walk from here comes by there, and by then this was due.
+pub data ComesBy (terms : Terms) : (here there : Walk) → List Command → Type 0 where
+  is_there : (here : Walk) → ComesBy terms here here []
+  goes_on : (here next there : Walk) (owed more : List Command) → IsOneReplyOn terms here next owed → ComesBy terms next there more →
+      ComesBy terms here there (owed ++ more)
+
+-- The flow of this number begins there: the walk comes by a place where its request is awaited, and by then this was due.
+pub record FlowBegins (terms : Terms) (here : Walk) (before : List Command) (number : ℕ) : Type 0 where
+  pub there : Walk
+  pub at : At
+  pub awaits : there.place.stage ≡ idle at
+  pub flow : at.flow ≡ number
+  pub comes : ComesBy terms here there before

@@ -1,0 +1,15 @@
+//! What goes on is sent on, and is read as what was read: laws of the chain of `px_chain`, over whole lists and without its stages. Nothing here runs, and nothing stands on it.
+//!
+//! A proxy that changes nothing is a channel: each request goes to its server as the client made it, and each response comes back as the server made it (RFC 9110 section 3.7). The chain says what is due stage by stage. Where
+//! every reply to a flow goes on with the flow as it was asked, `specs/ClosedForm.antt` says over whole lists, without stages, which texts are sent and which servers are dialled, in order and with the faults' texts, and the
+//! chain does that: from whatever place of a walk the flow begins (`specs/Walks.antt`), and whatever other flows are answered. Whoever reads those texts reads what was read here before: `specs/WhatWasRead.antt` says it, with
+//! the few things that differ.
+//!
+//! So over `GET / HTTP/1.1` CRLF `Host: h` CRLF CRLF, twice, the closed form is a dial of server 0, the text of the first request to it, the interim responses and the final one that server 0 sent, to the client; and then, where
+//! the connection goes on, the same of the second request and of server 1, which is dialled once the first response is whole. What was read is the first request, those responses, the second request, and its responses: each
+//! text says one of these, in this order and without a gap.
+//!
+//! A second form of a definition finds what laws of growth and of order do not: a turn that takes the wrong one of two requests keeps them all.
+#![tactic(auto)]
+
+pub mod laws;

@@ -1,0 +1,136 @@
+-- What is asked about at a stage: whether it is a dial, how many answers are left there, and the ask that the stage finds.
+use Rattle.std.proofs.Common.{◌≡◌, ℕ, Bool, true, false, List, [], ◌∷◌, Option, Some, None, refl, ap, sym, ◌∙◌, subst}
+use Rattle.std.specs.Prelude.{not, if◌then◌else◌, ⊤}
+use Rattle.px_message.specs.declared.flow.Flow.{Flow}
+use Rattle.px_message.specs.declared.response.Response.{Response}
+use Rattle.px_event.specs.declared.command.Command.{Command}
+use Rattle.px_event.specs.Chain.{Look, NotYet, Asks, Ends}
+use Rattle.px_event.specs.Layer.{asks_in}
+use Rattle.px_read.specs.Items.{Item, missing, part, complete, bad_head, bad_body}
+use Rattle.px_read.specs.Laws.{head_in}
+use Rattle.px_read.specs.declared.head.RequestHead.{RequestHead as ReadRequest}
+use Rattle.px_read.specs.declared.head.ResponseHead.{ResponseHead as ReadResponse}
+use Rattle.px_exchange.specs.declared.asked.Judged.{Judged}
+use Rattle.px_exchange.specs.declared.asked.Judged.TheVariants.{Refused, Accepted, Connects}
+use Rattle.px_exchange.specs.declared.ending.Used.{Used}
+use Rattle.px_exchange.specs.declared.terms.Terms.{Terms}
+use Rattle.px_exchange.specs.Finds.{is_relayed, look_answer, look_answer_head, look_body, look_head, look_judged, look_returned, or_leaves}
+use Rattle.px_exchange.specs.Requests.{judged}
+use Rattle.px_chain.specs.Chain.{find, leaving, look}
+use Rattle.px_chain.specs.Left.{stage_left}
+use Rattle.px_chain.specs.Sights.{Sight, answers_in, dials_at, request_in, server_in, server_parked}
+use Rattle.px_chain.specs.Stages.{At, Stage, busy, connection, given_body, given_head, idle, next, over, place_of, request_body, response_body, response_head, upgraded}
+use Rattle.px_stream.specs.declared.phase.Asked.{Asked}
+use Rattle.px_stream.specs.declared.phase.Phase.TheVariants as phase
+use Rattle.px_stream.specs.Stands.{answer_asked, asked_in, asked_of, body_asked, head_asked, judged_asked, returned_asked}
+use Rattle.px_stream.specs.Tells.{asked_left, uses_side}
+use Rattle.px_stream.specs.Turns.{is_dial, used_at}
+
+abbrev AsksOf : Look Command → Asked → Type 0
+AsksOf (Asks ask) found = asks_in ask ≡ asked_of found ∷ []
+AsksOf l found = ⊤
+
+abbrev Facts : At → Sight → Bool → ℕ → Bool → Used → Look Command → Option Asked → Type 0
+Facts at seen dials count uses used l None = ⊤
+Facts at seen dials count uses used l (Some found) =
+    (is_dial found ≡ dials) × (asked_left found ≡ count) × (uses_side (phase.Asked found) ≡ uses) × (used_at at found seen ≡ used) × AsksOf l found
+
+-- the server whose side a stage uses
+abbrev pub used_of : Stage → Sight → Used
+used_of (busy at flow (response_head server how)) seen = server_in server seen
+used_of (busy at flow (response_body server how)) seen = server_in server seen
+used_of stage seen = server_parked (place_of stage).parked seen
+
+abbrev pub uses_of : Stage → Bool
+uses_of (busy at flow (response_head server how)) = true
+uses_of (busy at flow (response_body server how)) = true
+uses_of stage = false
+
+module _ (at : At) (seen : Sight) where
+  abbrev now : ℕ
+  now = seen.now
+
+  abbrev closed : Bool
+  closed = seen.closed
+
+  abbrev used : Used
+  used = server_parked at.parked seen
+
+  judged_facts : (terms : Terms) (head : ReadRequest) (made : Judged) → Facts at seen false 5 false used (look_judged terms at.flow head made now used closed) (judged_asked terms at head made now)
+  judged_facts terms head (Refused fault) = tt
+  judged_facts terms head (Accepted message) = (refl, refl, refl, refl, refl)
+  judged_facts terms head (Connects address) = tt
+
+  head_facts : (terms : Terms) (item : Item ReadRequest) → Facts at seen false 5 false used (look_head terms at.flow item now used closed) (head_asked terms at (head_in item) now)
+  head_facts terms missing = tt
+  head_facts terms (part head body) = judged_facts terms head (judged terms.place head)
+  head_facts terms (complete head body trailers size) = judged_facts terms head (judged terms.place head)
+  head_facts terms (bad_head fault) = tt
+  head_facts terms (bad_body fault head body) = judged_facts terms head (judged terms.place head)
+
+  body_facts : (flow : Flow) (item : Item ReadRequest) → Facts at seen false 4 false used (look_body flow item now used closed) (body_asked flow item now)
+  body_facts flow missing = tt
+  body_facts flow (part head body) = tt
+  body_facts flow (complete head body trailers size) = (refl, refl, refl, refl, refl)
+  body_facts flow (bad_head fault) = tt
+  body_facts flow (bad_body fault head body) = tt
+
+  relayed_facts : (b : Bool) (owed : List Command) (ask : Command) (found : Asked) → asks_in ask ≡ asked_of found ∷ [] → AsksOf (if not b then Ends owed else Asks ask) found
+  relayed_facts true owed ask found is = is
+  relayed_facts false owed ask found is = tt
+
+  answer_facts : (flow : Flow) (server : ℕ) (item : Item ReadResponse) → Facts at seen false 2 true (server_in server seen) (look_answer flow item now (server_in server seen) closed) (answer_asked flow server (head_in item) now)
+  answer_facts flow server missing = tt
+  answer_facts flow server (part head body) = (refl, refl, refl, refl, relayed_facts (is_relayed head.code) _ _ _ refl)
+  answer_facts flow server (complete head body trailers size) = (refl, refl, refl, refl, relayed_facts (is_relayed head.code) _ _ _ refl)
+  answer_facts flow server (bad_head fault) = tt
+  answer_facts flow server (bad_body fault head body) = (refl, refl, refl, refl, relayed_facts (is_relayed head.code) _ _ _ refl)
+
+  returned_facts : (flow : Flow) (server : ℕ) (item : Item ReadResponse) → Facts at seen false 1 true (server_in server seen) (look_returned flow item now (server_in server seen) closed) (returned_asked flow server item now)
+  returned_facts flow server missing = tt
+  returned_facts flow server (part head body) = tt
+  returned_facts flow server (complete head body trailers size) = (refl, refl, refl, refl, refl)
+  returned_facts flow server (bad_head fault) = tt
+  returned_facts flow server (bad_body fault head body) = tt
+
+facts_in : (terms : Terms) (stage : Stage) (seen : Sight) → Facts (place_of stage) seen (dials_at stage) (stage_left stage) (uses_of stage) (used_of stage seen) (find terms stage seen) (asked_in terms stage seen)
+facts_in terms (idle at) seen = head_facts at seen terms (request_in seen)
+facts_in terms (busy at flow (request_body given)) seen = body_facts at seen flow (request_in seen)
+facts_in terms (busy at flow connection) seen = (refl, refl, refl, refl, refl)
+facts_in terms (busy at flow (response_head server how)) seen = answer_facts at seen flow server (answers_in flow.request seen).final
+facts_in terms (busy at flow (response_body server how)) seen = returned_facts at seen flow server (answers_in flow.request seen).final
+facts_in terms (busy at flow (upgraded server)) seen = tt
+facts_in terms (busy at flow given_head) seen = (refl, refl, refl, refl, refl)
+facts_in terms (busy at flow given_body) seen = (refl, refl, refl, refl, refl)
+facts_in terms (next at) seen = tt
+facts_in terms over seen = tt
+
+module _ (terms : Terms) (stage : Stage) (seen : Sight) (found : Asked) (is : asked_in terms stage seen ≡ Some found) where
+  facts : Facts (place_of stage) seen (dials_at stage) (stage_left stage) (uses_of stage) (used_of stage seen) (find terms stage seen) (Some found)
+  facts = subst (Facts (place_of stage) seen (dials_at stage) (stage_left stage) (uses_of stage) (used_of stage seen) (find terms stage seen)) is (facts_in terms stage seen)
+
+  -- it is a dial where a connection is awaited
+  pub dial_asked : is_dial found ≡ dials_at stage
+  dial_asked = facts.0
+
+  -- as many answers are left as the stage can ask for
+  pub left_asked : asked_left found ≡ stage_left stage
+  left_asked = facts.1
+
+  -- it uses the side that the stage uses
+  pub used_asked : used_at (place_of stage) found seen ≡ used_of stage seen
+  used_asked = facts.3
+
+  -- if it uses one
+  pub uses_asked : uses_side (phase.Asked found) ≡ uses_of stage
+  uses_asked = facts.2
+
+  asks_by : (closed : Bool) (leaves : List Command) (l : Look Command) (ask : Command) → or_leaves closed leaves l ≡ Asks ask → AsksOf l found → asks_in ask ≡ asked_of found ∷ []
+  asks_by true leaves NotYet ask asks of = absurd (let no : Ends leaves ≡ Asks ask = asks in cc)
+  asks_by false leaves NotYet ask asks of = absurd (let no : NotYet ≡ Asks ask = asks in cc)
+  asks_by closed leaves (Asks own) ask asks of = (let e : Asks own ≡ Asks ask = asks in let f : own ≡ ask = cc in ap asks_in (sym f) ∙ of)
+  asks_by closed leaves (Ends owed) ask asks of = absurd (let no : Ends owed ≡ Asks ask = asks in cc)
+
+  -- and the ask that is found asks just that
+  pub ask_asked : (ask : Command) → look terms stage seen ≡ Asks ask → asks_in ask ≡ asked_of found ∷ []
+  ask_asked ask asks = asks_by seen.closed (leaving stage seen) (find terms stage seen) ask asks facts.4
