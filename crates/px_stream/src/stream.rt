@@ -448,14 +448,7 @@ impl Stream {
             ..
         } = self;
         let uses = uses_side(&phase);
-        let flow = upgraded_flow(phase);
-        match link::into_rest(side, uses) {
-            Ok(server) => rests_with(requests, server, flow),
-            Err(NoMemory) => {
-                drop(flow);
-                Err(NoMemory)
-            }
-        }
+        rests_of(requests, side, uses, upgraded_flow(phase))
     }
 
     /// The flow whose server is dialled, where the answer to that is awaited, for whoever ends it in its place; all else is let go of.
@@ -555,6 +548,27 @@ fn upgraded_flow(phase: Phase) -> Option<Boxed<Flow>>
         other => {
             drop(other);
             None
+        }
+    }
+}
+
+// What waits of the client and, where it is asked for, of the open side.
+fn rests_of(
+    requests: MessageReader,
+    side: Option<Link>,
+    uses: bool,
+    flow: Option<Boxed<Flow>>,
+) -> Result<(Rests, Option<Flow>), NoMemory>
+    ensures client { IfOk result (λ left. left.0.client ≡ requests.rest) }
+    ensures server { IfOk result (λ left. left.0.server ≡ side_rest uses side) }
+    ensures flow { IfOk result (λ left. left.1 ≡ flow) }
+{
+    match link::into_rest(side, uses) {
+        Ok(server) => rests_with(requests, server, flow),
+        Err(NoMemory) => {
+            drop(requests);
+            drop(flow);
+            Err(NoMemory)
         }
     }
 }

@@ -1,5 +1,7 @@
-use Rattle.std.proofs.Common.{[], ◌∷◌, None}
+use Rattle.std.proofs.Common.{◌≡◌, ℕ, List, [], ◌∷◌, None, subst}
+use Rattle.std.specs.Prelude.{IfOk}
 use Rattle.px_event.specs.declared.ask.Hook.TheVariants.{ResponseHead, ResponseBody}
+use Rattle.px_event.specs.declared.command.Command.{Command}
 use Rattle.px_event.specs.declared.command.Command.TheVariants as commands
 use Rattle.px_stream.specs.declared.phase.Asked.TheVariants as asked
 use Rattle.px_stream.specs.declared.phase.Phase.TheVariants as phase
@@ -7,14 +9,19 @@ use Rattle.px_stream.specs.declared.phase.Wanted.TheVariants as ready
 use Rattle.px_exchange.specs.Endings.{shut_server}
 use Rattle.px_exchange.specs.Flows.{ask_of, with_end, with_start}
 use Rattle.px_exchange.specs.Places.{dialled_for}
+use Rattle.px_chain.specs.Stages.{At}
+use Rattle.px_stream.specs.Looks.{FoundAtOnce, HeadFound}
 use Rattle.px_stream.proofs.LookingLemmas.{at_once, besides, head_looked, nothing_given}
 use Rattle.px_stream.proofs.looking.look.Goals as goal
 
 pub returns-in-Idle : goal.returns-in-Idle
-returns-in-Idle c = record {
-  looks = rw c.in-Idle.is (head_looked c.look_for_head.result c.args.side.now c.args.terms.now c.args.at.now.flow c.args.requests.now c.look_for_head.new.requests c.args.now.moment c.args.now.parked c.args.now.client_closed
-      c.args.out.now.items c.look_for_head.new.out.items c.look_for_head.ensures.gives c.look_for_head.ensures.phase c.look_for_head.ensures.reads);
-}
+returns-in-Idle c =
+    let P : At → Type 0 = λ at. IfOk c.look_for_head.result (λ next. (c.args.side.now ≡ c.args.side.now) × HeadFound c.args.terms.now at.flow c.args.requests.now c.look_for_head.new.requests c.args.now.moment
+    c.args.now.parked c.args.now.client_closed c.args.out.now.items c.look_for_head.new.out.items next) in
+    record {
+      looks = rw c.in-Idle.is (subst P c.at.view_is (head_looked c.look_for_head.result c.args.side.now c.args.terms.now c.at.inside.flow c.args.requests.now c.look_for_head.new.requests c.args.now.moment
+          c.args.now.parked c.args.now.client_closed c.args.out.now.items c.look_for_head.new.out.items c.look_for_head.ensures.gives c.look_for_head.ensures.phase c.look_for_head.ensures.reads));
+    }
 
 pub look_for_body-requires : goal.look_for_body-requires
 look_for_body-requires c = record { reads = rw c.in-RequestBody.is at c.requires.may_look }
@@ -23,11 +30,14 @@ pub returns-in-RequestBody : goal.returns-in-RequestBody
 returns-in-RequestBody c = record { looks = rw c.in-RequestBody.is (besides c.look_for_body.result c.args.side.now _ c.look_for_body.ensures.looks) }
 
 pub returns-in-Connection : goal.returns-in-Connection
-returns-in-Connection c = record {
-  looks = rw c.in-Connection.is (at_once c.dial.result c.args.side.now c.args.requests.now
-      (commands.Dial c.args.at.now.dials (dialled_for c.args.terms.now.place c.in-Connection.flow.request) None ∷ shut_server c.args.now.parked) c.args.out.now.items c.dial.new.out.items
-      (phase.Asked (asked.Connection c.in-Connection.flow c.args.at.now.dials)) c.dial.ensures.gives c.dial.ensures.phase);
-}
+returns-in-Connection c =
+    let Given : ℕ → List Command = λ server. commands.Dial server (dialled_for c.args.terms.now.place c.in-Connection.flow.request) None ∷ shut_server c.args.now.parked in
+    let P : At → Type 0 = λ at. IfOk c.dial.result (λ next. (c.args.side.now ≡ c.args.side.now)
+    × FoundAtOnce c.args.requests.now c.args.requests.now (Given at.dials) c.args.out.now.items c.dial.new.out.items (phase.Asked (asked.Connection c.in-Connection.flow at.dials)) next) in
+    record {
+      looks = rw c.in-Connection.is (subst P c.at.view_is (at_once c.dial.result c.args.side.now c.args.requests.now (Given c.at.inside.dials) c.args.out.now.items c.dial.new.out.items
+          (phase.Asked (asked.Connection c.in-Connection.flow c.at.inside.dials)) c.dial.ensures.gives c.dial.ensures.phase));
+    }
 
 pub look_for_answer-requires : goal.look_for_answer-requires
 look_for_answer-requires c = record { kept = rw c.in-ResponseHead.is at c.requires.may_look }

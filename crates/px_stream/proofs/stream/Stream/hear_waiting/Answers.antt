@@ -6,8 +6,11 @@ use Rattle.px_stream.proofs.stream.Stream.hear_waiting.Goals as goal
 pub returns-then-self-clause-hears : goal.returns-then-self-clause-hears
 returns-then-self-clause-hears c = hears_past c.args.self.now c.args.event.now c.if-self.true
 
-pub hear-requires : goal.hear-requires
-hear-requires c = record { open_still = waits_open c.args.self.now c.requires.waits c.requires.somewhere; agrees = waits_agree c.args.self.now c.requires.waits c.requires.somewhere }
+pub hear-requires-clause-open_still : goal.hear-requires-clause-open_still
+hear-requires-clause-open_still c = waits_open c.args.self.now c.requires.waits c.requires.somewhere
+
+pub hear-requires-clause-agrees : goal.hear-requires-clause-agrees
+hear-requires-clause-agrees c = waits_agree c.args.self.now c.requires.waits c.requires.somewhere
 
 pub returns-clause-hears : goal.returns-clause-hears
 returns-clause-hears c = on_ok_weaker c.hear.result (λ heard. hears_on c.args.self.now c.args.event.now c.hear.new.self c.hear.ensures.phase heard c.if-self.false) c.hear.ensures.hears

@@ -7,10 +7,15 @@ use Rattle.px_stream.proofs.stream.Stream.reach.Goals as goal
 pub take_asked-asked-requires : goal.take_asked-asked-requires
 take_asked-asked-requires c = dial_awaited c.args.self.now.phase c.requires.waits
 
-pub turn-requires : goal.turn-requires
-turn-requires c =
+pub turn-requires-clause-few : goal.turn-requires-clause-few
+turn-requires-clause-few c = (few_asked c.args.self.now c.take_asked-asked.result c.take_asked-asked.ensures c.requires.somewhere).few
+
+pub turn-requires-clause-dials : goal.turn-requires-clause-dials
+turn-requires-clause-dials c =
     let few = few_asked c.args.self.now c.take_asked-asked.result c.take_asked-asked.ensures c.requires.somewhere in
-    record { few = few.few; dials = (let f = few.few in let d = few.dials in omega arith) }
+    let f = few.few in
+    let d = few.dials in
+    omega arith
 
 pub feed-requires : goal.feed-requires
 feed-requires c = reach_unshut c.args.self.now c.turn.new.self c.args.moment c.take_asked-asked.result c.in_ok-ready.ready c.args.out.now.items c.turn.new.out.items c.requires.waits c.take_asked-asked.ensures
