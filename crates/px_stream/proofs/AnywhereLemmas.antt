@@ -1,11 +1,11 @@
 -- A stream that begins where others have been: anew, with what they have left, or with a flow whose request they have read.
-use Rattle.std.proofs.Common.{◌≡◌, ℕ, ◌+◌, ◌<◌, ◌≤◌, Bool, true, false, List, [], ◌∷◌, ◌++◌, length, drop, Option, Some, None, refl, ap, sym, ◌∙◌, subst, arith, option_to_list}
+use Rattle.std.proofs.Common.{◌≡◌, ℕ, ◌+◌, ◌<◌, ◌≤◌, Bool, false, List, [], ◌++◌, Option, Some, None, refl, ap, sym, ◌∙◌, subst, arith, option_to_list}
 use Rattle.std.specs.List.{flat_map}
 use Rattle.px_message.specs.declared.flow.Flow.{Flow}
 use Rattle.px_message.specs.declared.response.Response.{Response}
 use Rattle.px_event.specs.declared.command.Command.{Command}
 use Rattle.px_event.specs.declared.event.Event.{Event}
-use Rattle.px_event.specs.Chain.{Timed, Look, NotYet, found_with}
+use Rattle.px_event.specs.Chain.{Timed, NotYet, found_with}
 use Rattle.px_event.specs.Layer.{AsksOnly, asks_in}
 use Rattle.px_event.specs.View.{questions, seen_of}
 use Rattle.px_event.proofs.Seen.{seen_append}
@@ -15,23 +15,20 @@ use Rattle.px_exchange.specs.declared.terms.Terms.{Terms}
 use Rattle.px_exchange.specs.declared.ending.Used.{Used}
 use Rattle.px_exchange.specs.Endings.{shut_server}
 use Rattle.px_exchange.specs.Finds.{look_head, or_leaves}
-use Rattle.px_chain.specs.Chain.{begin, behind, http_chain, look, pass, sequence, sight_past, so_far}
+use Rattle.px_chain.specs.Chain.{begin, behind, look, pass, sight_past, so_far}
 use Rattle.px_chain.specs.Left.{behind_left, stages_left}
-use Rattle.px_chain.specs.Sights.{IsWithin, Sight, Standing, server_parked, sight_of, sight_over}
-use Rattle.px_chain.specs.Stages.{At, Parked, Stage, busy, connection, given_head, idle, side_parked}
-use Rattle.px_chain.specs.Streams.{client_closed}
+use Rattle.px_chain.specs.Sights.{Sight, Standing, server_parked, sight_of, sight_over}
+use Rattle.px_chain.specs.Stages.{At, Parked, Stage, busy, idle, side_parked}
 use Rattle.px_chain.proofs.Quiet.{any_flow}
 use Rattle.px_chain.proofs.QuietLemmas.{so_far_quiet}
 use Rattle.px_stream.specs.declared.link.Link.{Link}
-use Rattle.px_stream.specs.declared.phase.Phase.{Phase}
-use Rattle.px_stream.specs.declared.phase.Phase.TheVariants as phase
 use Rattle.px_stream.specs.declared.phase.Wanted.{Wanted}
 use Rattle.px_stream.specs.declared.phase.Wanted.TheVariants as ready
 use Rattle.px_stream.specs.declared.stream.Stream.{Stream}
 use Rattle.px_stream.specs.Anywhere.{Begins, BeginsThere, GoesOnWith, IsCounted, IsFew, IsInSequence, IsNew, MayBegin, MayGoOn, Waits, doing_by, unheard}
 use Rattle.px_stream.specs.Heard.{IsUnshut, feeds, side_with}
 use Rattle.px_stream.specs.Looks.{MayLook}
-use Rattle.px_stream.specs.Stands.{HasPlace, HasRequest, IsIn, IsReady, PhaseAt, awaits, content_in, parked_link, sent_on, stage_of, unread_link}
+use Rattle.px_stream.specs.Stands.{IsReady, PhaseAt, awaits, parked_link, stage_of}
 use Rattle.px_stream.specs.Tells.{left_by, sequence_left}
 use Rattle.px_stream.specs.Turns.{LooksOnce}
 use Rattle.px_stream.proofs.CallLemmas.{LookedIn, at_walked, gives_walked, looked_in, may_look, same_tail}

@@ -2,7 +2,6 @@
 use Rattle.std.proofs.Common.{◌≡◌, ℕ, Bool, true, false, List, [], ◌∷◌, Option, Some, None, refl, ap, sym, ◌∙◌, subst}
 use Rattle.std.specs.Prelude.{not, if◌then◌else◌, ⊤}
 use Rattle.px_message.specs.declared.flow.Flow.{Flow}
-use Rattle.px_message.specs.declared.response.Response.{Response}
 use Rattle.px_event.specs.declared.command.Command.{Command}
 use Rattle.px_event.specs.Chain.{Look, NotYet, Asks, Ends}
 use Rattle.px_event.specs.Layer.{asks_in}
@@ -14,7 +13,7 @@ use Rattle.px_exchange.specs.declared.asked.Judged.{Judged}
 use Rattle.px_exchange.specs.declared.asked.Judged.TheVariants.{Refused, Accepted, Connects}
 use Rattle.px_exchange.specs.declared.ending.Used.{Used}
 use Rattle.px_exchange.specs.declared.terms.Terms.{Terms}
-use Rattle.px_exchange.specs.Finds.{is_relayed, look_answer, look_answer_head, look_body, look_head, look_judged, look_returned, or_leaves}
+use Rattle.px_exchange.specs.Finds.{is_relayed, look_answer, look_body, look_head, look_judged, look_returned, or_leaves}
 use Rattle.px_exchange.specs.Requests.{judged}
 use Rattle.px_chain.specs.Chain.{find, leaving, look}
 use Rattle.px_chain.specs.Left.{stage_left}

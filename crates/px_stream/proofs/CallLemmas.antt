@@ -1,6 +1,6 @@
 -- The calls of a stream, wherever it stands: what it does is what the chain does there.
 use Rattle.std.proofs.Common.{◌≡◌, ℕ, ◌<◌, ◌≤◌, Bool, true, false, List, [], ◌∷◌, ◌++◌, Option, Some, None, Result, Ok, Err, refl, ap, sym, ◌∙◌, subst, append_assoc, arith}
-use Rattle.std.specs.Prelude.{⊤, IfOk, OnOk}
+use Rattle.std.specs.Prelude.{IfOk, OnOk}
 use Rattle.std.proofs.lemmas.List.{append-nil}
 use Rattle.px_event.specs.declared.ask.Ask.{Ask}
 use Rattle.px_event.specs.declared.command.Command.{Command}
@@ -16,7 +16,6 @@ use Rattle.px_message.specs.declared.flow.Flow.{Flow}
 use Rattle.px_message.specs.declared.request.Request.{Request}
 use Rattle.px_message.specs.declared.response.Response.{Response}
 use Rattle.px_read.specs.Items.{Item, missing, part, complete, bad_head, bad_body}
-use Rattle.px_read.specs.Laws.{head_in}
 use Rattle.px_read.specs.Marks.{Mark, asks, answers}
 use Rattle.px_read.specs.Reader.{State, request, response}
 use Rattle.px_read.specs.declared.head.RequestHead.{RequestHead as ReadRequest}
@@ -24,14 +23,13 @@ use Rattle.px_read.specs.declared.head.ResponseHead.{ResponseHead as ReadRespons
 use Rattle.px_exchange.specs.declared.ending.Used.{Used}
 use Rattle.px_exchange.specs.declared.terms.Terms.{Terms}
 use Rattle.px_exchange.specs.Requests.{is_head}
-use Rattle.px_chain.specs.Chain.{IsOnward, behind, http_chain, is_sequence, look, pass, pass_body, passed, sequence, sight_past, so_far, stands, turn}
-use Rattle.px_chain.specs.Sights.{IsWithin, Sight, Standing, answers_in, request_in, server_in, server_parked, sight_behind, sight_over, sight_with}
-use Rattle.px_chain.specs.Stages.{At, Doing, Parked, Stage, busy, connection, given_body, given_head, idle, next, over, place_of, request_body, response_body, response_head, side_of, upgraded}
+use Rattle.px_chain.specs.Chain.{behind, http_chain, is_sequence, look, pass, pass_body, passed, sequence, sight_past, so_far, stands, turn}
+use Rattle.px_chain.specs.Sights.{IsWithin, Sight, Standing, request_in, server_in, server_parked, sight_behind, sight_over, sight_with}
+use Rattle.px_chain.specs.Stages.{At, Parked, Stage, busy, connection, given_body, given_head, idle, next, over, place_of, request_body, response_body, response_head, side_of, upgraded}
 use Rattle.px_chain.proofs.ChainLaws.{open_still}
 use Rattle.px_chain.proofs.SightLaws.{onward_from, sight_more, sight_passed, sight_turned, within_more, within_passed, within_stood}
 use Rattle.px_stream.specs.declared.link.Link.{Link}
 use Rattle.px_stream.specs.declared.phase.Asked.{Asked}
-use Rattle.px_stream.specs.declared.phase.Asked.TheVariants as asked
 use Rattle.px_stream.specs.declared.phase.Phase.{Phase}
 use Rattle.px_stream.specs.declared.phase.Phase.TheVariants as phase
 use Rattle.px_stream.specs.declared.phase.Wanted.{Wanted}
@@ -39,8 +37,8 @@ use Rattle.px_stream.specs.declared.phase.Wanted.TheVariants as ready
 use Rattle.px_stream.specs.declared.stream.Stream.{Stream}
 use Rattle.px_stream.specs.Anywhere.{IsCounted, IsFew, IsInSequence, ResumesAnywhere, Somewhere, TakesAnywhere}
 use Rattle.px_stream.specs.Heard.{SideAgrees, closes_client, requests_take, side_takes}
-use Rattle.px_stream.specs.Looks.{LookFound, LookedAt, MayLook}
-use Rattle.px_stream.specs.Stands.{AskedSide, HasPlace, HasRequest, HasSide, IsAsked, IsAt, IsIn, IsLink, IsOpen, IsPlaced, IsReady, IsSome, LinkKeeps, PhaseAt, ReadsFinal, ReadsReturn, asked_in, awaited_in, awaits, content_in, is_last, parked_link, sent_on, stage_of, used_in}
+use Rattle.px_stream.specs.Looks.{LookFound, MayLook}
+use Rattle.px_stream.specs.Stands.{AskedSide, HasPlace, HasRequest, HasSide, IsAsked, IsAt, IsIn, IsLink, IsOpen, IsPlaced, IsReady, IsSome, LinkKeeps, PhaseAt, ReadsFinal, ReadsReturn, asked_in, awaits, content_in, is_last, parked_link, sent_on, stage_of, used_in}
 use Rattle.px_stream.proofs.StateLaws.{ends_last, ends_where_it_ends}
 use Rattle.px_stream.specs.Tells.{sequence_left}
 use Rattle.px_stream.specs.Turns.{Hears, LooksOnce, Shows, Turned, TurnsTo, asked_turn, is_dial, requests_behind, side_behind, used_at}

@@ -1,5 +1,5 @@
 -- One event more, where no answer is awaited: the readers have heard it, and the flow stands where it stood.
-use Rattle.std.proofs.Common.{◌≡◌, ℕ, ◌≤◌, ◌==◌, Bool, true, false, List, [], ◌∷◌, ◌++◌, length, drop, Option, Some, None, refl, ap, sym, ◌∙◌, subst, arith, append_assoc, length-append}
+use Rattle.std.proofs.Common.{◌≡◌, ℕ, ◌==◌, Bool, true, false, List, [], ◌∷◌, ◌++◌, Option, Some, None, refl, ap, sym, ◌∙◌, subst, arith, append_assoc, length-append}
 use Rattle.std.specs.Prelude.{◌+◌, ◌||◌, if◌then◌else◌}
 use Rattle.std.proofs.lemmas.List.{append-nil, drop-append-le}
 use Rattle.px_event.specs.declared.event.Event.{Event}
@@ -9,20 +9,19 @@ use Rattle.px_event.specs.Chain.{NotYet, Ends}
 use Rattle.px_event.specs.Sides.{closes, piece_of}
 use Rattle.px_read.specs.Items.{answer_list}
 use Rattle.px_read.specs.Marks.{Mark, asks, answers}
-use Rattle.px_read.specs.Reader.{Message, request, response, before_all, State, Reads}
+use Rattle.px_read.specs.Reader.{Message, request, response, State, Reads}
 use Rattle.px_read.specs.declared.head.ResponseHead.{ResponseHead}
-use Rattle.px_message.specs.declared.flow.Flow.{Flow}
 use Rattle.px_message.specs.declared.request.Request.{Request}
 use Rattle.px_exchange.specs.Finds.{or_leaves}
 use Rattle.px_exchange.specs.Requests.{is_head}
 use Rattle.px_exchange.specs.declared.terms.Terms.{Terms}
 use Rattle.px_chain.specs.Chain.{look}
 use Rattle.px_chain.specs.Sights.{Sight, sight_with}
-use Rattle.px_chain.specs.Stages.{At, Doing, Parked, Stage, busy, connection, given_body, given_head, idle, next, over, request_body, response_body, response_head, side_in, side_of, side_parked, upgraded}
+use Rattle.px_chain.specs.Stages.{At, Parked, Stage, busy, connection, given_body, given_head, idle, next, over, request_body, response_body, response_head, side_in, side_of, side_parked, upgraded}
 use Rattle.px_stream.specs.declared.link.Link.{Link}
 use Rattle.px_stream.specs.declared.phase.Wanted.{Wanted}
 use Rattle.px_stream.specs.Heard.{feeds, link_hears, link_closes, requests_take, side_takes, closes_client}
-use Rattle.px_stream.specs.Stands.{Passes, ReadsLink, IsLink, IsOpen, Keeps, HasRequest, HasSide, IsReady, IsPlaced, HasPlace, ReadsBody, ReadsReturn, content_in, parked_link, unread_link}
+use Rattle.px_stream.specs.Stands.{Passes, ReadsLink, IsLink, IsOpen, Keeps, HasRequest, HasSide, IsReady, IsPlaced, HasPlace, ReadsReturn, content_in, parked_link, unread_link}
 use Rattle.px_stream.proofs.ReadLemmas.{fed_on, shut_on, shuts}
 
 -- what an open side hears

@@ -1,7 +1,6 @@
 -- One look, whatever is looked for: what is given is what the stage owes that is passed to, and the flow is there.
-use Rattle.std.proofs.Common.{◌≡◌, ℕ, ◌+◌, Bool, true, false, List, [], ◌∷◌, ◌++◌, length, drop, Option, Some, None, refl, ap, sym, ◌∙◌, subst, append_assoc}
+use Rattle.std.proofs.Common.{◌≡◌, ℕ, ◌+◌, Bool, true, false, List, [], ◌∷◌, ◌++◌, drop, Option, Some, None, refl, ap, sym, ◌∙◌, subst, append_assoc}
 use Rattle.std.proofs.lemmas.List.{drop-drop}
-use Rattle.px_message.specs.declared.address.Address.{Address}
 use Rattle.px_message.specs.declared.fault.Fault.{Fault}
 use Rattle.px_message.specs.declared.fault.Fault.TheVariants.{BadResponse}
 use Rattle.px_message.specs.declared.flow.Flow.{Flow}
@@ -11,7 +10,7 @@ use Rattle.px_event.specs.declared.command.Command.{Command}
 use Rattle.px_event.specs.declared.command.Command.TheVariants as commands
 use Rattle.px_event.specs.Chain.{Look, NotYet, Asks, Ends, found, found_with}
 use Rattle.px_read.specs.Heads.{is_interim}
-use Rattle.px_read.specs.Items.{Body, Item, missing, part, complete, bad_head, bad_body, body_of, no_body, request_item, answer_list}
+use Rattle.px_read.specs.Items.{Body, Item, missing, part, complete, bad_head, bad_body, body_of}
 use Rattle.px_read.specs.Laws.{head_in}
 use Rattle.px_read.specs.Marks.{Mark, asks, answers}
 use Rattle.px_read.specs.Reader.{request, State, Reads}
@@ -22,7 +21,6 @@ use Rattle.px_exchange.specs.declared.asked.Judged.TheVariants.{Refused, Accepte
 use Rattle.px_exchange.specs.declared.body.Progress.{Progress}
 use Rattle.px_exchange.specs.declared.body.Progress.TheVariants as progress
 use Rattle.px_exchange.specs.declared.ending.Used.{Used}
-use Rattle.px_exchange.specs.declared.ending.Used.TheVariants.{ByServer}
 use Rattle.px_exchange.specs.declared.terms.Terms.{Terms}
 use Rattle.px_exchange.specs.Bodies.{content_of}
 use Rattle.px_exchange.specs.Endings.{closed_message, ends_by_fault, ends_early, refuses, shut_server, without_response}
@@ -36,7 +34,6 @@ use Rattle.px_chain.specs.Sights.{Sight, answers_in, left_by, request_in, server
 use Rattle.px_chain.specs.Stages.{At, Parked, Stage, all_sent, busy, connection, given_body, given_head, idle, over, request_body, response_body, response_head, upgraded}
 use Rattle.px_chain.proofs.ChainLaws.{commands_append}
 use Rattle.px_stream.specs.declared.link.Link.{Link}
-use Rattle.px_stream.specs.declared.phase.Asked.{Asked}
 use Rattle.px_stream.specs.declared.phase.Asked.TheVariants as asked
 use Rattle.px_stream.specs.declared.phase.Phase.{Phase}
 use Rattle.px_stream.specs.declared.phase.Phase.TheVariants as phase
@@ -44,9 +41,9 @@ use Rattle.px_stream.specs.declared.phase.Wanted.{Wanted}
 use Rattle.px_stream.specs.declared.phase.Wanted.TheVariants as ready
 use Rattle.px_stream.specs.declared.reading.FinalHead.{FinalHead}
 use Rattle.px_stream.specs.declared.reading.FinalHead.TheVariants as answer
-use Rattle.px_stream.specs.Looks.{AnswerFound, BodyFound, HeadFound, HeadRead, LookedAt, LookFound, ReadsMore, ReturnFound, answer_gives, answer_phase, body_gives, body_phase, head_phase, is_over, judged_phase, relayed_phase, relays, returned_gives, returned_phase, unless_left, where_left}
+use Rattle.px_stream.specs.Looks.{AnswerFound, HeadRead, LookedAt, LookFound, ReturnFound, answer_gives, answer_phase, body_gives, body_phase, head_phase, is_over, judged_phase, relayed_phase, relays, returned_gives, returned_phase, unless_left, where_left}
 use Rattle.px_stream.specs.Responses.{AnswerCome}
-use Rattle.px_stream.specs.Stands.{HasPlace, HasRequest, HasSide, IsAsked, IsLast, IsLastAt, IsLink, IsOpen, IsReady, Keeps, LinkKeeps, PhaseAt, ReadsBody, ReadsFinal, ReadsLink, ReadsReturn, StaysOpen, answer_asked, asked_in, body_asked, content_in, head_asked, judged_asked, marks_at, parked_link, returned_asked, sent_on, stage_of, used_in}
+use Rattle.px_stream.specs.Stands.{HasPlace, HasRequest, HasSide, IsLastAt, IsLink, IsOpen, IsReady, Keeps, LinkKeeps, PhaseAt, ReadsFinal, ReadsReturn, answer_asked, body_asked, content_in, head_asked, judged_asked, parked_link, returned_asked, sent_on, stage_of, used_in}
 use Rattle.px_stream.proofs.HeadLemmas.{connect_there, connect_whole, gives_at, gives_missing, look_at_head, no_connect, phase_at}
 use Rattle.px_stream.proofs.ShownLemmas.{BodyShown, ReturnShown, body_shown, return_shown}
 

@@ -21,21 +21,20 @@ use Rattle.px_read.specs.Reader.{State}
 use Rattle.px_read.specs.declared.head.RequestHead.{RequestHead as ReadRequest}
 use Rattle.px_exchange.specs.declared.terms.Terms.{Terms}
 use Rattle.px_exchange.specs.Finds.{or_leaves}
-use Rattle.px_chain.specs.Chain.{Connect, behind, connect_in, http_chain, look, pass, pass_body, passed, sequence, sight_past, so_far, stands, turn}
+use Rattle.px_chain.specs.Chain.{Connect, behind, connect_in, http_chain, look, pass, pass_body, passed, sequence, so_far, stands, turn}
 use Rattle.px_chain.specs.Left.{behind_left, stage_left, stages_left}
 use Rattle.px_chain.specs.Sights.{Sight, Standing, request_in, sight_over}
 use Rattle.px_chain.specs.Stages.{At, Doing, Stage, busy, connection, given_body, given_head, idle, next, over, place_of, request_body, response_body, response_head, upgraded}
 use Rattle.px_chain.proofs.Quiet.{AllQuiet, LooksQuiet, IsBehind, any_flow}
 use Rattle.px_chain.proofs.QuietLemmas.{IsGoing, behind_quiet, finds_quiet_end, so_far_quiet, turn_behind, turn_quiet}
 use Rattle.px_stream.specs.declared.link.Link.{Link}
-use Rattle.px_stream.specs.declared.phase.Asked.{Asked}
 use Rattle.px_stream.specs.declared.phase.Phase.{Phase}
 use Rattle.px_stream.specs.declared.phase.Phase.TheVariants as phase
 use Rattle.px_stream.specs.declared.phase.Wanted.{Wanted}
 use Rattle.px_stream.specs.declared.phase.Wanted.TheVariants as ready
 use Rattle.px_stream.specs.declared.stream.Stream.{Stream}
 use Rattle.px_stream.specs.Anywhere.{IsCounted, IsFew}
-use Rattle.px_stream.specs.Stands.{HasPlace, IsAt, IsIn, IsLast, IsLastAt, IsLastFor, PhaseAt, asked_in, asked_of, awaited_in, awaits, stage_of}
+use Rattle.px_stream.specs.Stands.{HasPlace, IsAt, IsIn, IsLast, IsLastAt, IsLastFor, PhaseAt, awaited_in, awaits, stage_of}
 use Rattle.px_stream.specs.Tells.{asked_left, left_by, sequence_left}
 use Rattle.px_stream.proofs.AskLemmas.{ask_asked, left_asked}
 

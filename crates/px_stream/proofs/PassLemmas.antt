@@ -1,7 +1,7 @@
 -- What stands behind the interim responses that were sent on.
 use Rattle.std.proofs.Common.{◌≡◌, ℕ, ◌+◌, Bool, List, [], ◌++◌, ap, sym, ◌∙◌}
 use Rattle.std.proofs.lemmas.List.{append-nil}
-use Rattle.px_read.specs.Items.{Answers, answer_list}
+use Rattle.px_read.specs.Items.{answer_list}
 use Rattle.px_read.specs.declared.head.ResponseHead.{ResponseHead as ReadResponse}
 use Rattle.px_stream.specs.Stands.{Passes}
 

@@ -7,18 +7,17 @@ use Rattle.px_event.specs.declared.event.Rests.{Rests}
 use Rattle.px_event.specs.Chain.{Timed, Look, NotYet, Asks, Ends}
 use Rattle.px_message.specs.declared.flow.Flow.{Flow}
 use Rattle.px_message.specs.declared.request.Request.{Request}
-use Rattle.px_read.specs.Marks.{Mark, asks, answers}
+use Rattle.px_read.specs.Marks.{Mark, asks}
 use Rattle.px_read.specs.Reader.{State}
 use Rattle.px_read.specs.declared.head.ResponseHead.{ResponseHead as ReadResponse}
 use Rattle.px_exchange.specs.declared.outcome.Outcome.TheVariants as outcomes
 use Rattle.px_exchange.specs.declared.terms.Terms.{Terms}
 use Rattle.px_exchange.specs.Requests.{is_head}
 use Rattle.px_chain.specs.Chain.{Connect, connect_in, look}
-use Rattle.px_chain.specs.Sights.{Sight, Standing, request_in, server_left, sight_over}
+use Rattle.px_chain.specs.Sights.{Sight, Standing, request_in, sight_over}
 use Rattle.px_chain.specs.Stages.{At, Doing, Stage, busy, connection, given_body, given_head, idle, next, over, request_body, response_body, response_head, upgraded}
 use Rattle.px_stream.specs.declared.link.Link.{Link}
 use Rattle.px_stream.specs.declared.phase.Asked.{Asked}
-use Rattle.px_stream.specs.declared.phase.Asked.TheVariants as asked
 use Rattle.px_stream.specs.declared.phase.Phase.{Phase}
 use Rattle.px_stream.specs.declared.phase.Phase.TheVariants as phase
 use Rattle.px_stream.specs.declared.phase.Wanted.{Wanted}
@@ -26,7 +25,7 @@ use Rattle.px_stream.specs.declared.phase.Wanted.TheVariants as ready
 use Rattle.px_stream.specs.declared.stream.Stream.{Stream}
 use Rattle.px_stream.specs.Anywhere.{IsInSequence}
 use Rattle.px_stream.specs.Rests.{ClientAsked, ClientBehind, ClientLast, ClientWaiting, IsUnreadAnswer, LeavesRests, ServerAsked, ServerLast, ServerWaiting, flow_last}
-use Rattle.px_stream.specs.Stands.{AskedRequest, AskedSide, HasRequest, HasSide, IsAsked, IsLast, IsLastAt, IsLastFor, IsLink, IsOpen, IsReady, LinkKeeps, PhaseAt, ReadsFinal, ReadsReturn, asked_in, content_in, is_last, stage_of}
+use Rattle.px_stream.specs.Stands.{AskedRequest, AskedSide, HasRequest, HasSide, IsLast, IsLastAt, IsLastFor, IsLink, IsOpen, LinkKeeps, PhaseAt, ReadsFinal, ReadsReturn, content_in, is_last, stage_of}
 use Rattle.px_stream.specs.Tells.{connected_by, ended_at, outcome_at, outcome_in, phase_flow, side_rest, uses_side}
 use Rattle.px_stream.proofs.AskLemmas.{uses_asked, uses_of}
 

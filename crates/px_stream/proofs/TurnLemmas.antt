@@ -1,5 +1,5 @@
 -- An answer to what was asked leads where the chain leads, and the readers are there.
-use Rattle.std.proofs.Common.{◌≡◌, ℕ, ◌+◌, Bool, true, false, List, [], ◌∷◌, ◌++◌, length, Option, Some, None, refl, ap, sym, ◌∙◌, subst, arith}
+use Rattle.std.proofs.Common.{◌≡◌, ℕ, ◌+◌, Bool, true, false, List, [], ◌∷◌, ◌++◌, Option, Some, None, refl, ap, sym, ◌∙◌, subst, arith}
 use Rattle.std.specs.Prelude.{◌==◌}
 use Rattle.px_message.specs.declared.fault.Fault.{Fault}
 use Rattle.px_message.specs.declared.flow.Flow.{Flow}
@@ -12,10 +12,9 @@ use Rattle.px_event.specs.declared.reply.Reply.{Reply}
 use Rattle.px_event.specs.declared.reply.Reply.TheVariants as reply
 use Rattle.px_event.specs.Chain.{Timed, Turn}
 use Rattle.px_read.specs.Chunks.{Finish, goes_on, whole, fails, Reading}
-use Rattle.px_read.specs.Heads.{is_interim}
 use Rattle.px_read.specs.Items.{Item, missing, part, complete, bad_head, bad_body, answer_list}
 use Rattle.px_read.specs.Laws.{head_in}
-use Rattle.px_read.specs.Marks.{asks, answers}
+use Rattle.px_read.specs.Marks.{asks}
 use Rattle.px_read.specs.Readings.{behind_bytes}
 use Rattle.px_read.specs.Reader.{Message, request, response, State, reading_from, behind_marks, before_all, Reads}
 use Rattle.px_read.specs.declared.head.RequestHead.{RequestHead as ReadRequest}
@@ -34,15 +33,14 @@ use Rattle.px_exchange.specs.Places.{is_same_address, server_for}
 use Rattle.px_exchange.specs.Replies.{taken_at_body_of, taken_at_head_of, taken_at_request_body, taken_at_request_head, taken_at_response_body, taken_at_response_head}
 use Rattle.px_exchange.specs.Requests.{expects, flow_of, is_head, judged}
 use Rattle.px_exchange.specs.Texts.{interim_commands}
-use Rattle.px_chain.specs.Chain.{behind_flow, dial_leads, finish_by, goes_on_by, parked_for, reached, sequence, side_if, turn, turns, turn_answer, turn_answer_head, turn_body, turn_given_head, turn_head, turn_judged, turn_read_whole, turn_response, turn_returned, turn_taken_answer, turn_taken_body, turn_taken_given, turn_taken_head, turn_taken_returned, turn_taken_whole, turn_whole_answer}
+use Rattle.px_chain.specs.Chain.{behind_flow, dial_leads, finish_by, goes_on_by, parked_for, sequence, side_if, turn, turns, turn_answer, turn_body, turn_head, turn_judged, turn_response, turn_returned, turn_taken_answer, turn_taken_body, turn_taken_given, turn_taken_head, turn_taken_returned, turn_taken_whole}
 use Rattle.px_chain.specs.Sights.{Sight, answers_in, client_left, dials_at, request_in, server_behind, server_in, server_left, server_parked, shut_behind, sight_behind}
 use Rattle.px_chain.specs.Stages.{At, Doing, Parked, Sent, Stage, all_sent, busy, connection, given_body, given_head, idle, next, over, place_of, request_body, response_body, response_head, side_parked, unparked, upgraded}
 use Rattle.px_stream.specs.declared.link.Link.{Link}
 use Rattle.px_stream.specs.declared.phase.Asked.{Asked}
-use Rattle.px_stream.specs.declared.phase.Asked.TheVariants as asked
 use Rattle.px_stream.specs.declared.phase.Wanted.{Wanted}
 use Rattle.px_stream.specs.declared.phase.Wanted.TheVariants as ready
-use Rattle.px_stream.specs.Stands.{AskedRequest, AskedSide, HasPlace, HasRequest, HasSide, IsAsked, IsLink, IsOpen, IsReady, Keeps, LinkKeeps, Passes, ReadsFinal, ReadsLink, ReadsReturn, answer_asked, asked_for, asked_in, body_asked, content_in, head_asked, judged_asked, marks_at, parked_link, returned_asked, sent_on, stage_of, unread_link}
+use Rattle.px_stream.specs.Stands.{AskedRequest, AskedSide, HasPlace, HasRequest, HasSide, IsAsked, IsOpen, Keeps, LinkKeeps, ReadsFinal, ReadsLink, ReadsReturn, answer_asked, asked_for, asked_in, body_asked, content_in, head_asked, judged_asked, marks_at, parked_link, returned_asked, sent_on, stage_of, unread_link}
 use Rattle.px_stream.proofs.AskLemmas.{dial_asked, used_of}
 use Rattle.px_stream.specs.Turns.{Turned, asked_turn, is_dial, opened_side, requests_behind, side_behind, taken_turn, turned_by, unless_parked}
 

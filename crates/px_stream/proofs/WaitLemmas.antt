@@ -1,8 +1,7 @@
 -- A stream whose server is dialled: it hears what comes meanwhile, and is connected by others.
-use Rattle.std.proofs.Common.{◌≡◌, ℕ, ◌+◌, ◌<◌, ◌≤◌, Bool, true, false, List, [], ◌∷◌, ◌++◌, length, drop, Option, Some, None, refl, ap, sym, ◌∙◌, subst, arith, append_assoc, option_to_list}
+use Rattle.std.proofs.Common.{◌≡◌, ℕ, ◌+◌, ◌<◌, ◌≤◌, Bool, true, false, List, [], ◌∷◌, ◌++◌, length, drop, Option, Some, None, refl, ap, sym, ◌∙◌, subst, arith, append_assoc}
 use Rattle.std.specs.Prelude.{◌||◌, if◌then◌else◌}
-use Rattle.std.specs.List.{flat_map}
-use Rattle.std.proofs.lemmas.List.{append-nil, drop-append-le}
+use Rattle.std.proofs.lemmas.List.{drop-append-le}
 use Rattle.px_message.specs.declared.flow.Flow.{Flow}
 use Rattle.px_event.specs.declared.command.Command.{Command}
 use Rattle.px_event.specs.declared.event.Event.{Event}
@@ -10,19 +9,18 @@ use Rattle.px_event.specs.declared.reply.Reply.{Reply}
 use Rattle.px_event.specs.declared.reply.Reply.TheVariants as reply
 use Rattle.px_event.specs.declared.side.Side.{Side}
 use Rattle.px_event.specs.declared.side.Side.TheVariants.{Client, Server}
-use Rattle.px_event.specs.Chain.{Timed, Turn, found_with}
+use Rattle.px_event.specs.Chain.{Timed}
 use Rattle.px_event.specs.Laws.{owed_over}
-use Rattle.px_event.specs.Layer.{AsksOnly, asks_in}
+use Rattle.px_event.specs.Layer.{AsksOnly}
 use Rattle.px_event.specs.Sides.{closes, piece_of}
-use Rattle.px_event.specs.View.{questions, seen_of}
+use Rattle.px_event.specs.View.{seen_of}
 use Rattle.px_event.proofs.Seen.{seen_append}
-use Rattle.px_read.specs.Reader.{State}
 use Rattle.px_exchange.specs.declared.terms.Terms.{Terms}
 use Rattle.px_exchange.specs.Dials.{connected_owes}
 use Rattle.px_exchange.specs.Requests.{is_head}
-use Rattle.px_chain.specs.Chain.{behind, http_chain, look, pass, reached, sequence, sight_past, so_far, turn}
-use Rattle.px_chain.specs.Left.{behind_left, stages_left}
-use Rattle.px_chain.specs.Sights.{IsWithin, Sight, Standing, UsedBytes, bytes_over, dials_at, shut_over, sight_of, sight_over, sight_with}
+use Rattle.px_chain.specs.Chain.{http_chain, pass, reached, sequence}
+use Rattle.px_chain.specs.Left.{stages_left}
+use Rattle.px_chain.specs.Sights.{Sight, Standing, UsedBytes, bytes_over, dials_at, shut_over, sight_of, sight_over, sight_with}
 use Rattle.px_chain.specs.Stages.{At, Doing, Parked, Stage, all_sent, busy, connection, given_body, given_head, idle, next, over, request_body, response_body, response_head, side_of, side_parked, upgraded}
 use Rattle.px_chain.specs.Streams.{Since, bytes_of, client_closed, is_closed}
 use Rattle.px_chain.proofs.FrontLaws.{now_more}
@@ -35,11 +33,11 @@ use Rattle.px_stream.specs.declared.phase.Phase.TheVariants as phase
 use Rattle.px_stream.specs.declared.phase.Wanted.{Wanted}
 use Rattle.px_stream.specs.declared.stream.Stream.{Stream}
 use Rattle.px_stream.specs.Anywhere.{HearsWaiting, IsFew, IsInSequence, MayReach, OpensInTime, Reaches, ReachesThere, Somewhere}
-use Rattle.px_stream.specs.Heard.{IsUnshut, SideAgrees, closes_client, feeds, requests_take, side_takes, side_with}
+use Rattle.px_stream.specs.Heard.{IsUnshut, SideAgrees, feeds, side_with}
 use Rattle.px_stream.specs.Looks.{MayLook}
-use Rattle.px_stream.specs.Stands.{HasPlace, HasRequest, IsAsked, IsIn, IsLink, IsOpen, IsPlaced, IsReady, IsSome, Keeps, ReadsLink, asked_in, awaited_in, awaits, content_in, parked_link, stage_of, unread_link}
+use Rattle.px_stream.specs.Stands.{IsIn, IsLink, IsOpen, IsPlaced, IsReady, IsSome, Keeps, ReadsLink, awaited_in, awaits, parked_link, stage_of, unread_link}
 use Rattle.px_stream.specs.Tells.{IsDialling, sequence_left}
-use Rattle.px_stream.specs.Turns.{Hears, LooksOnce, Turned, TurnsTo, is_dial, opened_side, side_behind}
+use Rattle.px_stream.specs.Turns.{Hears, LooksOnce, TurnsTo, is_dial, side_behind}
 use Rattle.px_stream.proofs.AnywhereLemmas.{looked_asks}
 use Rattle.px_stream.proofs.AskLemmas.{dial_asked}
 use Rattle.px_stream.proofs.CallLemmas.{LookedIn, asked_at, at_walked, gives_walked, looked_in, may_look, same_tail, turns_in}

@@ -1,5 +1,5 @@
 -- One look: what is given, and where the flow is then, by what the readers have come to.
-use Rattle.std.specs.Prelude.{◌≡◌, ◌≤◌, ℕ, Bool, true, false, if◌then◌else◌, List, [], ◌∷◌, ◌++◌, length, drop, Option, Some, None, ⊤}
+use Rattle.std.specs.Prelude.{◌≡◌, ◌≤◌, ℕ, Bool, true, false, List, [], ◌∷◌, ◌++◌, length, drop, Option, Some, None, ⊤}
 use Rattle.px_message.specs.declared.fault.Fault.TheVariants.{BadResponse}
 use Rattle.px_message.specs.declared.flow.Flow.{Flow}
 use Rattle.px_message.specs.declared.response.Response.{Response}

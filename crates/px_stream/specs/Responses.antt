@@ -1,11 +1,11 @@
 -- The head of a final response behind interim ones, as far as it was read.
-use Rattle.std.specs.Prelude.{◌≡◌, ◌+◌, ℕ, Bool, true, false, List, [], ◌∷◌, ◌++◌, length, Some}
+use Rattle.std.specs.Prelude.{◌≡◌, ℕ, Bool, true, false, List, [], ◌∷◌, ◌++◌, Some}
 use Rattle.px_event.specs.declared.command.Command.{Command}
 use Rattle.px_read.specs.Heads.{is_interim}
 use Rattle.px_read.specs.Items.{missing, bad_head, answer_list}
 use Rattle.px_read.specs.Laws.{head_in}
 use Rattle.px_read.specs.Marks.{Mark, answers, marks_of}
-use Rattle.px_read.specs.Reader.{Message, MessagePlace, at_head, response, State, to_come, Reads, IsNext, HasStopped}
+use Rattle.px_read.specs.Reader.{Message, at_head, response, State, to_come, Reads, IsNext, HasStopped}
 use Rattle.px_read.specs.declared.head.ResponseHead.{ResponseHead}
 use Rattle.px_read.specs.declared.part.Part.{Part}
 use Rattle.px_read.specs.declared.part.Part.TheVariants as part

@@ -10,7 +10,7 @@ use Rattle.px_exchange.specs.declared.place.Place.{Place}
 use Rattle.px_exchange.specs.Requests.{is_head}
 use Rattle.px_chain.specs.Chain.{Connect, connect_in}
 use Rattle.px_chain.specs.Sights.{Sight, client_left, request_in, server_left}
-use Rattle.px_chain.specs.Stages.{Doing, Stage, busy, idle, request_body, response_body, response_head, upgraded}
+use Rattle.px_chain.specs.Stages.{Stage, busy, idle, request_body, response_body, response_head, upgraded}
 use Rattle.px_stream.specs.Stands.{Passes}
 
 -- A reader that was fed these bytes of a message keeps that rest: what it gave, followed by what the rest tells from where it

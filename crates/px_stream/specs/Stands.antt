@@ -9,7 +9,7 @@ use Rattle.px_event.specs.declared.command.Command.{Command}
 use Rattle.px_event.specs.declared.event.Event.{Event}
 use Rattle.px_event.specs.Chain.{Timed, Look, NotYet, Asks, Ends}
 use Rattle.px_read.specs.Heads.{is_interim}
-use Rattle.px_read.specs.Items.{Item, part, complete, bad_body, answer_list}
+use Rattle.px_read.specs.Items.{Item, complete, answer_list}
 use Rattle.px_read.specs.Laws.{head_in}
 use Rattle.px_read.specs.Marks.{Mark, asks, answers}
 use Rattle.px_read.specs.Reader.{State, request, response, before_all, Reads}

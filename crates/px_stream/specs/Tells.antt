@@ -16,7 +16,7 @@ use Rattle.px_exchange.specs.Places.{address_of}
 use Rattle.px_chain.specs.Chain.{Connect, connect_in}
 use Rattle.px_chain.specs.Left.{behind_left, stages_left}
 use Rattle.px_chain.specs.Sights.{Sight, request_in}
-use Rattle.px_chain.specs.Stages.{At, Parked, Stage, busy, idle, next, over, upgraded}
+use Rattle.px_chain.specs.Stages.{At, Parked, Stage, busy, idle, upgraded}
 use Rattle.px_stream.specs.declared.link.Link.{Link}
 use Rattle.px_stream.specs.declared.phase.Asked.{Asked}
 use Rattle.px_stream.specs.declared.phase.Asked.TheVariants as asked

@@ -1,5 +1,5 @@
 -- What the calls of a stream do, in its own fields: an event is heard, an answer is taken, and then it looks once.
-use Rattle.std.specs.Prelude.{◌≡◌, ◌++◌, ℕ, Bool, true, false, List, [], Option, Some, None, ⊤}
+use Rattle.std.specs.Prelude.{◌≡◌, ◌++◌, ℕ, Bool, true, false, List, [], Option, Some, None}
 use Rattle.px_event.specs.declared.command.Command.{Command}
 use Rattle.px_event.specs.declared.event.Event.{Event}
 use Rattle.px_event.specs.declared.reply.Reply.{Reply}
@@ -18,12 +18,11 @@ use Rattle.px_chain.specs.Stages.{At, Doing, Parked, Stage, busy, idle, response
 use Rattle.px_stream.specs.declared.link.Link.{Link}
 use Rattle.px_stream.specs.declared.phase.Asked.{Asked}
 use Rattle.px_stream.specs.declared.phase.Asked.TheVariants as asked
-use Rattle.px_stream.specs.declared.phase.Phase.TheVariants as phase
 use Rattle.px_stream.specs.declared.phase.Wanted.{Wanted}
 use Rattle.px_stream.specs.declared.stream.Stream.{Stream}
-use Rattle.px_stream.specs.Heard.{SideAgrees, closes_client, requests_take, side_takes, side_with}
-use Rattle.px_stream.specs.Looks.{LookFound, MayLook}
-use Rattle.px_stream.specs.Stands.{HasPlace, IsReady, content_in, is_last, sent_on, stage_of, unread_link, used_in}
+use Rattle.px_stream.specs.Heard.{closes_client, requests_take, side_takes, side_with}
+use Rattle.px_stream.specs.Looks.{LookFound}
+use Rattle.px_stream.specs.Stands.{HasPlace, IsReady, content_in, sent_on, stage_of, unread_link, used_in}
 
 -- ---- what an answer brings to what was asked
 

@@ -43,7 +43,6 @@ mod leaving;
 mod link;
 mod looking;
 mod phase;
-pub mod probe;
 mod reading;
 mod sizes;
 mod stream;

@@ -1,5 +1,4 @@
-use Rattle.std.proofs.Common.{refl, sym, subst}
-use Rattle.px_stream.specs.Looks.{LookFound}
+use Rattle.std.proofs.Common.{refl, sym}
 use Rattle.px_stream.proofs.CallLemmas.{look_as}
 use Rattle.px_stream.proofs.stream.Stream.advance.Goals as goal
 

@@ -1,4 +1,3 @@
-use Rattle.std.proofs.Common.{refl}
 use Rattle.px_stream.proofs.CallLemmas.{heard_by}
 use Rattle.px_stream.proofs.stream.Stream.hear.Goals as goal
 

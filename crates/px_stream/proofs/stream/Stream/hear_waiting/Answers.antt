@@ -1,5 +1,4 @@
 use Rattle.std.proofs.lemmas.Result.{on_ok_weaker}
-use Rattle.std.proofs.Common.{ap, sym, ◌∙◌}
 use Rattle.px_stream.proofs.WaitLemmas.{hears_on, hears_past, waits_agree, waits_open}
 use Rattle.px_stream.proofs.stream.Stream.hear_waiting.Goals as goal
 

@@ -1,4 +1,4 @@
-use Rattle.std.proofs.Common.{rules, ◌≡◌, ◌∙◌, Bool, Option, subst, sym}
+use Rattle.std.proofs.Common.{rules, ◌≡◌, Bool, Option, subst, sym}
 use Rattle.std.specs.Prelude.{IfOk}
 use Rattle.px_message.specs.declared.flow.Flow.{Flow}
 use Rattle.px_chain.specs.Chain.{look}
