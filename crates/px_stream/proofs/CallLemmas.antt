@@ -424,8 +424,7 @@ module _ (before : Stream) (moment : ℕ) (reply : Reply) (found : Asked) (live 
         (given ≡ out ++ (turn made stage seen answer).owed) × Turned to sees between.at between.requests between.side looked between.client_closed
     turns_in between looked out given call =
         let leads : stage_of between.at looked ≡ to = call.leads seen shows ∙ ap (λ (t : Turn Stage Command). sequence t.stage) turn_is in
-        let there = turned made stage seen answer before.requests before.side found between.at looked between.client_closed asking.2 leads call.content (call.client ∙ place_is.client) in
-        (
+        let there = turned made stage seen answer before.requests before.side found between.at looked between.client_closed asking.2 leads call.content (call.client ∙ place_is.client) in (
           call.gives seen shows ∙ ap (λ (t : Turn Stage Command). out ++ t.owed) turn_is,
           subst (λ r. Turned to sees between.at r between.side looked between.client_closed) (sym call.requests)
               (subst (λ s. Turned to sees between.at (requests_behind (stage_of between.at looked) before.requests) s looked between.client_closed) (sym call.side) there),
@@ -564,11 +563,11 @@ turns_by (Ok there) before mid after moment now reply found ready used closed di
     let stage : stage_of after.at there ≡ stage_of mid.at ready = ap (λ a. stage_of a there) at ∙ ap (stage_of mid.at) same in
     let Gives : Used → Bool → ℕ → Type 0 = λ u b m. (seen : Sight) → Shows before.at found u b seen → longer ≡ out ++ (asked_turn before.terms.place before.at found seen u b (record { moment = m; value = reply })).owed in
     let Leads : Used → Bool → ℕ → Type 0 = λ u b m. (seen : Sight) → Shows before.at found u b seen →
-        stage_of mid.at ready ≡ sequence (asked_turn before.terms.place before.at found seen u b (record { moment = m; value = reply })).stage in
+    stage_of mid.at ready ≡ sequence (asked_turn before.terms.place before.at found seen u b (record { moment = m; value = reply })).stage in
     let given : Gives (used_in before.side) before.client_closed moment =
-        subst (λ u. Gives u before.client_closed moment) uses (subst (λ b. Gives used b moment) shut (subst (λ m. Gives used closed m) at_now gives)) in
+    subst (λ u. Gives u before.client_closed moment) uses (subst (λ b. Gives used b moment) shut (subst (λ m. Gives used closed m) at_now gives)) in
     let led : Leads (used_in before.side) before.client_closed moment =
-        subst (λ u. Leads u before.client_closed moment) uses (subst (λ b. Leads used b moment) shut (subst (λ m. Leads used closed m) at_now leads)) in
+    subst (λ u. Leads u before.client_closed moment) uses (subst (λ b. Leads used b moment) shut (subst (λ m. Leads used closed m) at_now leads)) in
     record {
       terms = terms;
       client = client;

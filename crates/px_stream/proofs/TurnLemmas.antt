@@ -226,8 +226,7 @@ module _ (terms : Terms) (seen : Sight) (answer : Timed Reply) (requests : State
     goes_to : (to_it : Bool) (here : Parked) (told : Flow) → at.parked ≡ Some here → Led bodies (goes_on_by (side_if to_it here.server) terms.place at told)
     goes_to true here told is =
         let asked_head : Bool = is_head told.request.method in
-        let opened : side ≡ Some (unread_link here.server false seen.server seen.shut) = parked ∙ ap (λ o. parked_link o seen) is in
-        (
+        let opened : side ≡ Some (unread_link here.server false seen.server seen.shut) = parked ∙ ap (λ o. parked_link o seen) is in (
           record { rest = keeps.rest; open_still = keeps.open_still },
           subst (λ s. IsOpen (ReadsLink asked_head here.server seen.server seen.shut [] []) (opened_side false here.server asked_head s)) (sym opened) (unread_reads asked_head here.server seen.server seen.shut),
         )

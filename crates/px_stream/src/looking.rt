@@ -7,10 +7,10 @@ ghost use Rattle.px_exchange.specs.Endings.{closed_message, ends_by_fault, ends_
 ghost use Rattle.px_exchange.specs.Places.{dialled_for};
 ghost use Rattle.px_stream.specs.Looks.{LookFound, MayLook, is_over};
 
-use crate::looking::answer::{look_for_answer, look_for_returned};
-use crate::looking::request::{look_for_body, look_for_head};
 use crate::at::At;
 use crate::link::Link;
+use crate::looking::answer::{look_for_answer, look_for_returned};
+use crate::looking::request::{look_for_body, look_for_head};
 use crate::phase::{Asked, Phase, Wanted};
 use px_event::{Command, Hook};
 use px_exchange::ending::{Used, end_by_fault, end_early, part};

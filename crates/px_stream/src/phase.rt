@@ -59,37 +59,19 @@ pub enum Wanted {
 #[derive(Drop)]
 pub enum Asked {
     /// The hook of the request's head; whether the client waits to send the body.
-    Idle {
-        flow: Boxed<Flow>,
-        expects: bool,
-    },
+    Idle { flow: Boxed<Flow>, expects: bool },
     /// The hook of the whole request.
-    RequestBody {
-        flow: Boxed<Flow>,
-    },
+    RequestBody { flow: Boxed<Flow> },
     /// The dial of this server.
-    Connection {
-        flow: Boxed<Flow>,
-        server: u32,
-    },
+    Connection { flow: Boxed<Flow>, server: u32 },
     /// The hook of the response's head.
-    ResponseHead {
-        flow: Boxed<Flow>,
-        server: u32,
-    },
+    ResponseHead { flow: Boxed<Flow>, server: u32 },
     /// The hook of the whole response.
-    ResponseBody {
-        flow: Boxed<Flow>,
-        server: u32,
-    },
+    ResponseBody { flow: Boxed<Flow>, server: u32 },
     /// The hook of the head of a response that was given in place of the server's.
-    GivenHead {
-        flow: Boxed<Flow>,
-    },
+    GivenHead { flow: Boxed<Flow> },
     /// And that of the whole of it.
-    GivenBody {
-        flow: Boxed<Flow>,
-    },
+    GivenBody { flow: Boxed<Flow> },
 }
 
 /// Where the present flow stands.
