@@ -21,9 +21,9 @@ use Rattle.px_exchange.specs.declared.taken.Taken.{Taken}
 use Rattle.px_exchange.specs.declared.taken.Taken.TheVariants.{GoesOn, Responds, Kills}
 use Rattle.px_exchange.specs.declared.place.Place.{Place}
 use Rattle.px_exchange.specs.declared.terms.Terms.{Terms}
-use Rattle.px_chain.specs.Chain.{behind as behind_ask, finish_by, goes_on_by, http_chain, sequence, look, leaving, parked_for, pass, pass_body, so_far, turn, turn_taken_head, turn_judged, turn_head, turn_taken_body, turn_taken_whole, turn_body, dial_leads, turn_taken_answer, turn_answer, turn_taken_returned, turn_response, turn_returned, turn_taken_given, behind_flow}
+use Rattle.px_chain.specs.Chain.{behind as behind_ask, behind_flow, dial_leads, finish_by, given_at, goes_on_by, http_chain, leaving, look, parked_for, pass, pass_body, sequence, so_far, turn, turn_answer, turn_body, turn_head, turn_judged, turn_response, turn_returned, turn_taken_answer, turn_taken_body, turn_taken_given, turn_taken_head, turn_taken_returned, turn_taken_whole}
 use Rattle.px_exchange.specs.Finds.{or_leaves, look_judged, look_head, look_body, look_answer_head, look_answer, look_returned, is_relayed}
-use Rattle.px_exchange.specs.Flows.{ask_of, response_of, with_answer, with_body, with_end, with_returned, with_start}
+use Rattle.px_exchange.specs.Flows.{ask_of, response_of, with_answer, with_body, with_returned}
 use Rattle.px_chain.proofs.Quiet.{AllQuiet, LooksQuiet, any_flow}
 use Rattle.px_chain.specs.Sights.{Sight, Standing, answers_in, request_in, server_in, server_parked, sight_over}
 use Rattle.px_chain.specs.Stages.{At, Stage, busy, connection, given_body, given_head, idle, next, over, request_body, response_body, response_head, unparked, upgraded}
@@ -278,10 +278,10 @@ turns terms n (busy at flow (response_body side how)) seen ask answer is asks = 
 turns terms n (busy at flow (upgraded side)) seen ask answer is asks = tt
 turns terms n (busy at flow given_head) seen ask answer is asks =
     stays n _ ask (asked_not (look terms (busy at flow given_head) seen) ask asks refl) (response_leads n flow.response _ _
-    (λ taken. taken_given_leads n at (with_start flow seen.now) taken answer.moment _ _ is))
+    (λ taken. taken_given_leads n at (given_at flow seen.now) taken answer.moment _ _ is))
 turns terms n (busy at flow given_body) seen ask answer is asks =
     stays n _ ask (asked_not (look terms (busy at flow given_body) seen) ask asks refl) (response_leads n flow.response _ _
-    (λ taken. taken_returned_leads n at (with_end flow seen.now) taken answer.moment _ _ is))
+    (λ taken. taken_returned_leads n at flow taken answer.moment _ _ is))
 turns terms n (next at) seen ask answer is asks = absurd (let wrong : Ends [] ≡ Asks ask = asks in cc)
 turns terms n over seen ask answer is asks = tt
 

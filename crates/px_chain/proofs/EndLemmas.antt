@@ -18,8 +18,8 @@ use Rattle.px_exchange.specs.declared.taken.Taken.{Taken}
 use Rattle.px_exchange.specs.declared.taken.Taken.TheVariants.{GoesOn, Responds, Kills}
 use Rattle.px_exchange.specs.declared.place.Place.{Place}
 use Rattle.px_exchange.specs.declared.terms.Terms.{Terms}
-use Rattle.px_chain.specs.Chain.{behind, find, finish_by, goes_on_by, leaving, look, parked_for, turn, turn_head, turn_judged, turn_taken_head, turn_body, turn_taken_body, turn_dial, turn_answer, turn_answer_head, turn_taken_answer, turn_returned, turn_taken_whole, turn_whole_answer, turn_response, turn_taken_returned, turn_taken_given}
-use Rattle.px_exchange.specs.Flows.{response_of, with_answer, with_body, with_end, with_returned, with_start}
+use Rattle.px_chain.specs.Chain.{behind, find, finish_by, given_at, goes_on_by, leaving, look, parked_for, turn, turn_answer, turn_answer_head, turn_body, turn_dial, turn_head, turn_judged, turn_response, turn_returned, turn_taken_answer, turn_taken_body, turn_taken_given, turn_taken_head, turn_taken_returned, turn_taken_whole, turn_whole_answer}
+use Rattle.px_exchange.specs.Flows.{response_of, with_answer, with_body, with_returned}
 use Rattle.px_exchange.specs.Endings.{without_response, killed_message, closed_message, connection_goes_on, shut_server}
 use Rattle.px_exchange.specs.EndOrder.{EndsInOrder, FoundInOrder, OnlyCloses}
 use Rattle.px_exchange.specs.Replies.{taken_at_request_body, taken_at_request_head, taken_at_response_body, taken_at_response_head}
@@ -169,11 +169,11 @@ module _ (terms : Terms) where
   turns_in_order (busy at flow (response_body side how)) seen answer = turn_returned_ends at flow side (answers_in flow.request seen).final seen answer
   turns_in_order (busy at flow (upgraded side)) seen answer = tt
   turns_in_order (busy at flow given_head) seen answer =
-      let asked_flow : Flow = with_start flow seen.now in
+      let asked_flow : Flow = given_at flow seen.now in
       response_ends asked_flow.response (λ message. taken_at_response_head message answer.value)
       (λ taken. turn_taken_given at asked_flow taken answer.moment (server_parked at.parked seen) seen.closed)
       (λ taken. given_ends at asked_flow taken answer.moment (server_parked at.parked seen) seen.closed)
-  turns_in_order (busy at flow given_body) seen answer = whole_answer_ends at (with_end flow seen.now) answer (server_parked at.parked seen) seen.closed
+  turns_in_order (busy at flow given_body) seen answer = whole_answer_ends at flow answer (server_parked at.parked seen) seen.closed
   turns_in_order (next at) seen answer = tt
   turns_in_order over seen answer = tt
 

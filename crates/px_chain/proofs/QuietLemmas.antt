@@ -24,11 +24,11 @@ use Rattle.px_exchange.specs.declared.ending.Used.TheVariants.{NoServer, ByServe
 use Rattle.px_exchange.specs.declared.taken.Taken.{Taken}
 use Rattle.px_exchange.specs.declared.taken.Taken.TheVariants.{GoesOn, Responds, Kills}
 use Rattle.px_exchange.specs.declared.terms.Terms.{Terms}
-use Rattle.px_chain.specs.Chain.{behind, dial_leads, find, finish, finish_by, goes_on_by, parked_for, turn_taken_whole, leaving, look, pass, pass_body, so_far, turn, turn_head, turn_judged, turn_taken_head, turn_body, turn_taken_body, turn_answer, turn_answer_head, turn_taken_answer, turn_returned, turn_whole_answer, turn_response, turn_taken_returned, turn_taken_given, killed, behind_flow}
+use Rattle.px_chain.specs.Chain.{behind, behind_flow, dial_leads, find, finish, finish_by, given_at, goes_on_by, killed, leaving, look, parked_for, pass, pass_body, so_far, turn, turn_answer, turn_answer_head, turn_body, turn_head, turn_judged, turn_response, turn_returned, turn_taken_answer, turn_taken_body, turn_taken_given, turn_taken_head, turn_taken_returned, turn_taken_whole, turn_whole_answer}
 use Rattle.px_exchange.specs.Finds.{or_leaves, look_head, look_judged, look_body, look_answer, look_answer_head, look_returned, is_relayed}
 use Rattle.px_exchange.specs.Texts.{meets_expectation, interim_command, interim_commands}
 use Rattle.px_exchange.specs.Dials.{dial_owes}
-use Rattle.px_exchange.specs.Flows.{response_of, with_answer, with_body, with_end, with_returned, with_start}
+use Rattle.px_exchange.specs.Flows.{response_of, with_answer, with_body, with_returned}
 use Rattle.px_exchange.specs.Endings.{shut_server, shut_client, shut_all, shut_unless, without_response, killed_message, closed_message, ends_early, ends_by_fault, refuses, finished, connection_goes_on}
 use Rattle.px_chain.specs.Left.{stage_left}
 use Rattle.px_chain.proofs.Quiet.{AllQuiet, LooksQuiet, IsOf, any_flow, no_flow, id_in, SameFlow, IsBehind, Leads}
@@ -347,12 +347,12 @@ turn_led terms names (busy at flow (response_body side how)) seen answer goes is
     (refl, omega arith) (omega arith) is
 turn_led terms names (busy at flow (upgraded side)) seen answer goes is = over_led names terms at.flow at.dials 0 [] tt
 turn_led terms names (busy at flow given_head) seen answer goes is =
-    let asked_flow : Flow = with_start flow seen.now in
+    let asked_flow : Flow = given_at flow seen.now in
     response_led names terms at.flow at.dials 2 asked_flow.response (λ message. taken_at_response_head message answer.value)
     (λ taken. turn_taken_given at asked_flow taken answer.moment (server_parked at.parked seen) seen.closed)
     (λ taken. given_led names terms at.flow at.dials 2 at asked_flow taken answer.moment (server_parked at.parked seen) seen.closed (refl, omega arith) (omega arith) is)
 turn_led terms names (busy at flow given_body) seen answer goes is =
-    whole_answer_led names terms at.flow at.dials 1 at (with_end flow seen.now) answer (server_parked at.parked seen) seen.closed (refl, omega arith) is
+    whole_answer_led names terms at.flow at.dials 1 at flow answer (server_parked at.parked seen) seen.closed (refl, omega arith) is
 turn_led terms names (next at) seen answer goes is = absurd goes
 turn_led terms names over seen answer goes is = over_led names terms 0 0 0 [] tt
 

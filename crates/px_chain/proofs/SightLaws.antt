@@ -24,10 +24,10 @@ use Rattle.px_exchange.specs.declared.place.Place.{Place}
 use Rattle.px_exchange.specs.declared.terms.Terms.{Terms}
 use Rattle.px_exchange.specs.Endings.{connection_goes_on}
 use Rattle.px_exchange.specs.Places.{is_same_address, server_for}
-use Rattle.px_exchange.specs.Flows.{response_of, with_answer, with_body, with_end, with_returned, with_start}
+use Rattle.px_exchange.specs.Flows.{response_of, with_answer, with_body, with_returned}
 use Rattle.px_exchange.specs.Replies.{taken_at_request_head, taken_at_request_body, taken_at_response_head, taken_at_response_body}
 use Rattle.px_exchange.specs.Requests.{expects, flow_of, judged}
-use Rattle.px_chain.specs.Chain.{IsOnward, behind_flow, dial_leads, finish_by, goes_on_by, is_alone, is_sequence, opened_by, parked_for, pass, pass_body, passed, sequence, side_if, sight_past, stands, turn, turn_answer, turn_answer_head, turn_body, turn_given_head, turn_head, turn_judged, turn_response, turn_returned, turn_taken_answer, turn_taken_body, turn_taken_given, turn_taken_head, turn_taken_returned, turn_taken_whole, turn_whole_answer, used_by_pass}
+use Rattle.px_chain.specs.Chain.{IsOnward, behind_flow, dial_leads, finish_by, given_at, goes_on_by, is_alone, is_sequence, opened_by, parked_for, pass, pass_body, passed, sequence, side_if, sight_past, stands, turn, turn_answer, turn_answer_head, turn_body, turn_given_head, turn_head, turn_judged, turn_response, turn_returned, turn_taken_answer, turn_taken_body, turn_taken_given, turn_taken_head, turn_taken_returned, turn_taken_whole, turn_whole_answer, used_by_pass}
 use Rattle.px_chain.specs.Sights.{IsWithin, Sight, Standing, UsedBytes, answers_in, bytes_over, client_left, dials_at, left_by, request_in, server_behind, server_in, server_left, server_parked, server_used, server_with, shut_behind, shut_over, shut_with, sight_behind, sight_over, sight_with, used_behind}
 use Rattle.px_chain.specs.Stages.{At, Parked, Stage, busy, connection, given_body, given_head, idle, next, over, request_body, response_body, response_head, side_of, side_parked, unparked, upgraded}
 use Rattle.px_event.specs.Sides.{piece_of}
@@ -458,9 +458,9 @@ side_turned terms (busy at flow (response_body side how)) seen answer =
     (returned_side at flow side (answers_in flow.request seen).final seen answer)
 side_turned terms (busy at flow (upgraded side)) seen answer = no_side refl
 side_turned terms (busy at flow given_head) seen answer =
-    kept_from (busy at flow given_head) (side_parked at.parked) _ refl refl (given_side at (with_start flow seen.now) answer (server_parked at.parked seen) seen.closed)
+    kept_from (busy at flow given_head) (side_parked at.parked) _ refl refl (given_side at (given_at flow seen.now) answer (server_parked at.parked seen) seen.closed)
 side_turned terms (busy at flow given_body) seen answer =
-    kept_from (busy at flow given_body) (side_parked at.parked) _ refl refl (whole_side at (with_end flow seen.now) answer (server_parked at.parked seen) seen.closed)
+    kept_from (busy at flow given_body) (side_parked at.parked) _ refl refl (whole_side at flow answer (server_parked at.parked seen) seen.closed)
 side_turned terms (next at) seen answer = kept_from (next at) (side_parked at.parked) _ refl refl (kept refl)
 side_turned terms over seen answer = no_side refl
 

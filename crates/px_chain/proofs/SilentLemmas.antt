@@ -34,12 +34,12 @@ use Rattle.px_exchange.specs.declared.terms.Terms.{Terms}
 use Rattle.px_exchange.specs.Dials.{connected_owes, dial_owes}
 use Rattle.px_exchange.specs.Endings.{shut_all, shut_server, shut_client, shut_unless, without_response, killed_message, closed_message, ends_early, ends_by_fault, refuses, finished, connection_goes_on}
 use Rattle.px_exchange.specs.Finds.{or_leaves, look_head, look_judged, look_body, look_answer, look_answer_head, look_returned, is_relayed}
-use Rattle.px_exchange.specs.Flows.{response_of, with_answer, with_body, with_end, with_returned, with_start}
+use Rattle.px_exchange.specs.Flows.{response_of, with_answer, with_body, with_returned}
 use Rattle.px_exchange.specs.Places.{is_same_address, server_for}
 use Rattle.px_exchange.specs.Replies.{taken_at_request_body, taken_at_request_head, taken_at_response_body, taken_at_response_head}
 use Rattle.px_exchange.specs.Requests.{is_head, expects, flow_of, judged}
 use Rattle.px_exchange.specs.Texts.{meets_expectation, interim_command, interim_commands}
-use Rattle.px_chain.specs.Chain.{IsOnward, begin, behind, behind_flow, dial_leads, find, finish, finish_by, goes_on_by, http_chain, is_alone, is_sequence, killed, leaving, look, parked_for, pass, pass_body, passed, sequence, side_if, so_far, turn, turn_answer, turn_answer_head, turn_body, turn_head, turn_judged, turn_response, turn_returned, turn_taken_answer, turn_taken_body, turn_taken_given, turn_taken_head, turn_taken_returned, turn_taken_whole, turn_whole_answer}
+use Rattle.px_chain.specs.Chain.{IsOnward, begin, behind, behind_flow, dial_leads, find, finish, finish_by, given_at, goes_on_by, http_chain, is_alone, is_sequence, killed, leaving, look, parked_for, pass, pass_body, passed, sequence, side_if, so_far, turn, turn_answer, turn_answer_head, turn_body, turn_head, turn_judged, turn_response, turn_returned, turn_taken_answer, turn_taken_body, turn_taken_given, turn_taken_head, turn_taken_returned, turn_taken_whole, turn_whole_answer}
 use Rattle.px_chain.specs.Silent.{NoAnswer, ParkedBelow, connects, connections}
 use Rattle.px_chain.specs.Sights.{Sight, Standing, answers_in, request_in, server_in, server_parked, sight_over}
 use Rattle.px_chain.specs.Stages.{At, Parked, Stage, busy, connection, given_body, given_head, idle, next, over, place_of, request_body, response_body, response_head, side_in, side_of, side_parked, unparked, upgraded}
@@ -439,13 +439,13 @@ module _ (server : ℕ) where
         (omega arith, omega arith, same_parked refl) below
     turn_leads (busy at flow (upgraded side)) seen answer below before = over_leads at.parked at.dials (at.dials + connects answer.value) [] refl
     turn_leads (busy at flow given_head) seen answer below before =
-        let asked_flow : Flow = with_start flow seen.now in
+        let asked_flow : Flow = given_at flow seen.now in
         response_leads at.parked at.dials (at.dials + connects answer.value) asked_flow.response (λ message. taken_at_response_head message answer.value)
         (λ taken. turn_taken_given at asked_flow taken answer.moment (server_parked at.parked seen) seen.closed)
         (λ taken. given_leads at.parked at.dials (at.dials + connects answer.value) at asked_flow taken answer.moment (server_parked at.parked seen) seen.closed
         ((omega arith, omega arith, same_parked refl), below))
     turn_leads (busy at flow given_body) seen answer below before =
-        whole_answer_leads at.parked at.dials (at.dials + connects answer.value) at (with_end flow seen.now) answer (server_parked at.parked seen) seen.closed
+        whole_answer_leads at.parked at.dials (at.dials + connects answer.value) at flow answer (server_parked at.parked seen) seen.closed
         ((omega arith, omega arith, same_parked refl), below)
     turn_leads (next at) seen answer below before = (refl, ((omega arith, omega arith, same_parked refl), below))
     turn_leads over seen answer below before = over_leads None 0 (0 + connects answer.value) [] refl

@@ -200,6 +200,10 @@ turn_returned at flow server _ seen answer = stops
 
 -- ---- a response that was given in place of the server's
 
+-- it is whole when it is given: both its moments are then
+abbrev pub given_at : Flow → ℕ → Flow
+given_at flow moment = with_end (with_start flow moment) moment
+
 abbrev pub turn_taken_given : At → Flow → Taken Response → ℕ → Used → Bool → Turn Stage Command
 turn_taken_given at flow (GoesOn response) moment parked closed =
     record { owed = []; stage = busy at (record flow { response = Some response }) given_body }
@@ -240,8 +244,8 @@ finds place at flow (response_head server sent) seen =
 finds place at flow (response_body server sent) seen =
     look_returned flow (answers_in flow.request seen).final seen.now (server_in server seen) seen.closed
 finds place at flow (upgraded server) seen = Ends []
-finds place at flow given_head seen = Asks (ask_of (with_start flow seen.now) ResponseHead)
-finds place at flow given_body seen = Asks (ask_of (with_end flow seen.now) ResponseBody)
+finds place at flow given_head seen = Asks (ask_of (given_at flow seen.now) ResponseHead)
+finds place at flow given_body seen = Asks (ask_of flow ResponseBody)
 
 abbrev pub find : Terms → Stage → Sight → Look Command
 find terms (idle at) seen = look_head terms at.flow (request_in seen) seen.now (server_parked at.parked seen) seen.closed
@@ -292,8 +296,8 @@ turns place at flow connection seen answer = turn_dial place at flow answer seen
 turns place at flow (response_head server sent) seen answer = turn_answer at flow server (answers_in flow.request seen).final seen answer
 turns place at flow (response_body server sent) seen answer = turn_returned at flow server (answers_in flow.request seen).final seen answer
 turns place at flow (upgraded server) seen answer = stops
-turns place at flow given_head seen answer = turn_given_head at (with_start flow seen.now) answer (server_parked at.parked seen) seen.closed
-turns place at flow given_body seen answer = turn_whole_answer at (with_end flow seen.now) answer (server_parked at.parked seen) seen.closed
+turns place at flow given_head seen answer = turn_given_head at (given_at flow seen.now) answer (server_parked at.parked seen) seen.closed
+turns place at flow given_body seen answer = turn_whole_answer at flow answer (server_parked at.parked seen) seen.closed
 
 abbrev pub turn : Terms → Stage → Sight → Timed Reply → Turn Stage Command
 turn terms (idle at) seen answer = turn_head terms at (request_in seen) seen answer

@@ -24,11 +24,11 @@ use Rattle.px_exchange.specs.declared.taken.Taken.TheVariants.{GoesOn, Responds,
 use Rattle.px_exchange.specs.declared.place.Place.{Place}
 use Rattle.px_exchange.specs.declared.terms.Terms.{Terms}
 use Rattle.px_exchange.specs.Endings.{connection_goes_on}
-use Rattle.px_exchange.specs.Flows.{response_of, with_answer, with_body, with_end, with_returned, with_start}
+use Rattle.px_exchange.specs.Flows.{response_of, with_answer, with_body, with_returned}
 use Rattle.px_exchange.specs.Places.{is_same_address, server_for}
 use Rattle.px_exchange.specs.Replies.{taken_at_request_body, taken_at_request_head, taken_at_response_body, taken_at_response_head}
 use Rattle.px_exchange.specs.Requests.{expects, flow_of, judged}
-use Rattle.px_chain.specs.Chain.{IsOnward, begin, behind_flow, dial_leads, finish_by, goes_on_by, is_alone, is_sequence, parked_for, pass, pass_body, sequence, side_if, sight_past, stands, turn, turn_answer, turn_answer_head, turn_body, turn_given_head, turn_head, turn_judged, turn_read_whole, turn_response, turn_returned, turn_taken_answer, turn_taken_body, turn_taken_given, turn_taken_head, turn_taken_returned, turn_taken_whole, turn_whole_answer}
+use Rattle.px_chain.specs.Chain.{IsOnward, begin, behind_flow, dial_leads, finish_by, given_at, goes_on_by, is_alone, is_sequence, parked_for, pass, pass_body, sequence, side_if, sight_past, stands, turn, turn_answer, turn_answer_head, turn_body, turn_given_head, turn_head, turn_judged, turn_read_whole, turn_response, turn_returned, turn_taken_answer, turn_taken_body, turn_taken_given, turn_taken_head, turn_taken_returned, turn_taken_whole, turn_whole_answer}
 use Rattle.px_chain.specs.Sights.{Sight, Standing, answers_in, client_left, dials_at, request_in, server_behind, server_in, server_left, server_parked, server_with, shut_behind, shut_with, sight_behind, sight_over, sight_with}
 use Rattle.px_chain.specs.Silent.{ParkedBelow}
 use Rattle.px_chain.specs.Stages.{At, Parked, Stage, busy, connection, given_body, given_head, idle, next, over, place_of, request_body, response_body, response_head, side_of, side_parked, Sent, unparked, upgraded}
@@ -297,8 +297,8 @@ turned_leads terms (busy at flow (response_head side how)) seen answer = answer_
 turned_leads terms (busy at flow (response_body side how)) seen answer =
     returned_turned at flow side how (answers_in flow.request seen).final seen answer
 turned_leads terms (busy at flow (upgraded side)) seen answer = leads_over (busy at flow (upgraded side))
-turned_leads terms (busy at flow given_head) seen answer = given_turned at flow (with_start flow seen.now) answer (server_parked at.parked seen) seen.closed
-turned_leads terms (busy at flow given_body) seen answer = whole_turned at flow (with_end flow seen.now) answer (server_parked at.parked seen) seen.closed
+turned_leads terms (busy at flow given_head) seen answer = given_turned at flow (given_at flow seen.now) answer (server_parked at.parked seen) seen.closed
+turned_leads terms (busy at flow given_body) seen answer = whole_turned at flow flow answer (server_parked at.parked seen) seen.closed
 turned_leads terms (next at) seen answer = stays (next at)
 turned_leads terms over seen answer = stays over
 

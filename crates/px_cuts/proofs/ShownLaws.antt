@@ -26,8 +26,8 @@ use Rattle.px_exchange.specs.declared.taken.Taken.{Taken}
 use Rattle.px_exchange.specs.declared.taken.Taken.TheVariants.{GoesOn, Responds, Kills}
 use Rattle.px_exchange.specs.declared.place.Place.{Place}
 use Rattle.px_exchange.specs.declared.terms.Terms.{Terms}
-use Rattle.px_chain.specs.Chain.{behind, behind_flow, dial_leads, finish, finish_by, goes_on_by, killed, look, parked_for, pass, pass_body, so_far, turn, turn_answer, turn_answer_head, turn_body, turn_given_head, turn_head, turn_judged, turn_read_whole, turn_response, turn_returned, turn_taken_answer, turn_taken_body, turn_taken_given, turn_taken_head, turn_taken_returned, turn_taken_whole, turn_whole_answer}
-use Rattle.px_exchange.specs.Flows.{ask_of, response_of, with_answer, with_body, with_end, with_returned, with_start}
+use Rattle.px_chain.specs.Chain.{behind, behind_flow, dial_leads, finish, finish_by, given_at, goes_on_by, killed, look, parked_for, pass, pass_body, so_far, turn, turn_answer, turn_answer_head, turn_body, turn_given_head, turn_head, turn_judged, turn_read_whole, turn_response, turn_returned, turn_taken_answer, turn_taken_body, turn_taken_given, turn_taken_head, turn_taken_returned, turn_taken_whole, turn_whole_answer}
+use Rattle.px_exchange.specs.Flows.{ask_of, response_of, with_answer, with_body, with_returned}
 use Rattle.px_exchange.specs.Dials.{dial_owes}
 use Rattle.px_exchange.specs.Finds.{is_relayed, look_answer, look_answer_head, look_body, look_head, look_judged, look_returned, or_leaves}
 use Rattle.px_cuts.specs.Cuts.{retimed, retimed_flow}
@@ -443,10 +443,10 @@ module _ (see : ℕ → ℕ) where
       returned_turn_seen at flow side (answers_in flow.request seen).final seen answer
   turn_shown terms (busy at flow (upgraded side)) seen answer = refl
   turn_shown terms (busy at flow given_head) seen answer =
-      given_turn_seen at (with_start flow seen.now) answer (server_parked at.parked seen) seen.closed
-      ∙ ap (λ u. turn_given_head at (with_start (retimed_flow see flow) (see seen.now)) (retimed_reply see answer) u seen.closed) (parked_seen at.parked seen)
+      given_turn_seen at (given_at flow seen.now) answer (server_parked at.parked seen) seen.closed
+      ∙ ap (λ u. turn_given_head at (given_at (retimed_flow see flow) (see seen.now)) (retimed_reply see answer) u seen.closed) (parked_seen at.parked seen)
   turn_shown terms (busy at flow given_body) seen answer =
-      whole_answer_seen at (with_end flow seen.now) answer (server_parked at.parked seen) seen.closed
-      ∙ ap (λ u. turn_whole_answer at (with_end (retimed_flow see flow) (see seen.now)) (retimed_reply see answer) u seen.closed) (parked_seen at.parked seen)
+      whole_answer_seen at flow answer (server_parked at.parked seen) seen.closed
+      ∙ ap (λ u. turn_whole_answer at (retimed_flow see flow) (retimed_reply see answer) u seen.closed) (parked_seen at.parked seen)
   turn_shown terms (next at) seen answer = refl
   turn_shown terms over seen answer = refl

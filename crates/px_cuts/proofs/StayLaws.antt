@@ -32,11 +32,11 @@ use Rattle.px_exchange.specs.Finds.{look_answer, look_answer_head, look_body, lo
 use Rattle.px_cuts.specs.Shown.{hears}
 use Rattle.px_cuts.proofs.PlaceLaws.{LeavesMore}
 use Rattle.px_exchange.specs.Requests.{expects, flow_of, is_head, judged}
-use Rattle.px_chain.specs.Chain.{behind, killed, look, pass, pass_body, sight_past, so_far, turn, turn_answer, turn_answer_head, turn_body, turn_given_head, turn_head, turn_judged, turn_returned, turn_taken_body, turn_taken_head, turn_whole_answer}
+use Rattle.px_chain.specs.Chain.{behind, given_at, killed, look, pass, pass_body, sight_past, so_far, turn, turn_answer, turn_answer_head, turn_body, turn_given_head, turn_head, turn_judged, turn_returned, turn_taken_body, turn_taken_head, turn_whole_answer}
 use Rattle.px_chain.specs.Sights.{Sight, left_by, server_parked, server_with, shut_with}
 use Rattle.px_chain.specs.Stages.{At, Parked, Stage, busy, connection, given_body, given_head, idle, next, over, request_body, response_body, response_head, side_of, side_parked, upgraded}
 use Rattle.px_event.specs.Sides.{piece_of}
-use Rattle.px_exchange.specs.Flows.{with_body, with_end, with_start}
+use Rattle.px_exchange.specs.Flows.{with_body}
 use Rattle.px_exchange.specs.Replies.{taken_at_request_body, taken_at_request_head}
 use Rattle.px_exchange.specs.Texts.{interim_commands}
 use Rattle.px_exchange.specs.Endings.{closed_message, ends_early, shut_server, without_response}
@@ -408,13 +408,13 @@ module _ (terms : Terms) (readers : ReadersStay) (side : Side) (bytes : List ℕ
     look = refl;
     so_far = refl;
     behind = refl;
-    turn = λ answer. ap (λ u. turn_given_head at (with_start flow now) answer u false) (parked_heard client server shut now at);
+    turn = λ answer. ap (λ u. turn_given_head at (given_at flow now) answer u false) (parked_heard client server shut now at);
   }
   finds_by (busy at flow given_body) client server shut now found = record {
     look = refl;
     so_far = refl;
     behind = refl;
-    turn = λ answer. ap (λ u. turn_whole_answer at (with_end flow now) answer u false) (parked_heard client server shut now at);
+    turn = λ answer. ap (λ u. turn_whole_answer at flow answer u false) (parked_heard client server shut now at);
   }
   finds_by (next at) client server shut now found = record { look = refl; so_far = refl; behind = refl; turn = λ answer. refl }
   finds_by over client server shut now found = record { look = refl; so_far = refl; behind = refl; turn = λ answer. refl }

@@ -21,9 +21,9 @@ use Rattle.px_read.specs.Reader.{State}
 use Rattle.px_exchange.specs.declared.place.Place.{Place}
 use Rattle.px_exchange.specs.declared.terms.Terms.{Terms}
 use Rattle.px_exchange.specs.Finds.{or_leaves}
-use Rattle.px_exchange.specs.Flows.{ask_of, with_start}
+use Rattle.px_exchange.specs.Flows.{ask_of}
 use Rattle.px_exchange.specs.Places.{dialled_for, terms_of}
-use Rattle.px_chain.specs.Chain.{look, parked_of, pass}
+use Rattle.px_chain.specs.Chain.{given_at, look, parked_of, pass}
 use Rattle.px_chain.specs.Sights.{Sight, Standing, sight_over}
 use Rattle.px_chain.specs.Stages.{At, Parked, busy}
 use Rattle.px_chain.specs.Stages as flows
@@ -111,7 +111,7 @@ asks_by : (given : Option Response) (terms : Terms) (flow : Flow) (before seen :
 asks_by None terms flow before seen =
     let ask : Command = commands.Dial first_at.dials (dialled_for terms.place flow.request) None in (ask, asks_still seen.closed [] ask)
 asks_by (Some response) terms flow before seen =
-    let ask : Command = ask_of (with_start flow seen.now) ResponseHead in (ask, asks_still seen.closed [] ask)
+    let ask : Command = ask_of (given_at flow seen.now) ResponseHead in (ask, asks_still seen.closed [] ask)
 
 -- so an answer is awaited
 asked_phase : (l : Look Command) (terms : Terms) (at : At) (requests : State) (side : Option Link) (is_here : Phase) (stage : flows.Stage) (seen : Sight) (ask : Command) → l ≡ Asks ask →

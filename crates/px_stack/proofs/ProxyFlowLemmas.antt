@@ -25,11 +25,11 @@ use Rattle.px_exchange.specs.declared.taken.Taken.TheVariants.{GoesOn, Kills, Re
 use Rattle.px_exchange.specs.declared.terms.Terms.{Terms}
 use Rattle.px_exchange.specs.Dials.{dial_owes}
 use Rattle.px_exchange.specs.Endings.{connection_goes_on, killed_message}
-use Rattle.px_exchange.specs.Flows.{response_of, with_answer, with_body, with_end, with_returned, with_start}
+use Rattle.px_exchange.specs.Flows.{response_of, with_answer, with_body, with_returned}
 use Rattle.px_exchange.specs.Places.{is_same_address, server_for}
 use Rattle.px_exchange.specs.Replies.{taken_at_response_body, taken_at_response_head}
 use Rattle.px_exchange.specs.Requests.{judged}
-use Rattle.px_chain.specs.Chain.{behind_flow, dial_leads, finish_by, goes_on_by, parked_for, pass, pass_body, sequence, side_if, turn, turn_answer, turn_body, turn_head, turn_judged, turn_response, turn_returned, turn_taken_answer, turn_taken_body, turn_taken_given, turn_taken_head, turn_taken_returned, turn_taken_whole}
+use Rattle.px_chain.specs.Chain.{behind_flow, dial_leads, finish_by, given_at, goes_on_by, parked_for, pass, pass_body, sequence, side_if, turn, turn_answer, turn_body, turn_head, turn_judged, turn_response, turn_returned, turn_taken_answer, turn_taken_body, turn_taken_given, turn_taken_head, turn_taken_returned, turn_taken_whole}
 use Rattle.px_chain.specs.Sights.{Sight, answers_in, request_in, server_in, server_parked}
 use Rattle.px_chain.specs.Silent.{connects}
 use Rattle.px_chain.specs.Stages.{At, Parked, Stage, busy, connection, given_body, given_head, idle, next, over, request_body, response_body, response_head, unparked, upgraded}
@@ -262,12 +262,12 @@ module _ (server : ℕ) where
       returned_apart at flow side (answers_in flow.request seen).final seen answer apart
   turn_apart terms (busy at flow (upgraded side)) seen answer apart sees = tt
   turn_apart terms (busy at flow given_head) seen answer apart sees =
-      let asked : Flow = with_start flow seen.now in
+      let asked : Flow = given_at flow seen.now in
       let parked : Used = server_parked at.parked seen in
       response_apart asked.response (λ response. taken_at_response_head response answer.value) (λ taken. turn_taken_given at asked taken answer.moment parked seen.closed)
       (λ taken. given_apart at asked taken answer.moment parked seen.closed apart)
   turn_apart terms (busy at flow given_body) seen answer apart sees =
-      let asked : Flow = with_end flow seen.now in
+      let asked : Flow = flow in
       let parked : Used = server_parked at.parked seen in
       response_apart asked.response (λ response. taken_at_response_body response answer.value)
       (λ taken. turn_taken_returned at asked taken answer.moment parked seen.closed)

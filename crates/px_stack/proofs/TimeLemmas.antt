@@ -23,10 +23,10 @@ use Rattle.px_exchange.specs.declared.taken.Taken.{Taken}
 use Rattle.px_exchange.specs.declared.taken.Taken.TheVariants.{GoesOn, Responds, Kills}
 use Rattle.px_exchange.specs.declared.terms.Terms.{Terms}
 use Rattle.px_exchange.specs.Endings.{connection_goes_on}
-use Rattle.px_exchange.specs.Flows.{response_of, with_answer, with_body, with_end, with_returned, with_start}
+use Rattle.px_exchange.specs.Flows.{response_of, with_answer, with_body, with_returned}
 use Rattle.px_exchange.specs.Replies.{taken_at_request_body, taken_at_request_head, taken_at_response_body, taken_at_response_head}
 use Rattle.px_exchange.specs.Requests.{expects, flow_of, judged}
-use Rattle.px_chain.specs.Chain.{behind_flow, dial_leads, finish_by, goes_on_by, opened_by, parked_for, pass, pass_body, passed, sequence, stands, turn, turn_answer, turn_answer_head, turn_body, turn_given_head, turn_head, turn_judged, turn_response, turn_returned, turn_taken_answer, turn_taken_body, turn_taken_given, turn_taken_head, turn_taken_returned, turn_taken_whole, turn_whole_answer}
+use Rattle.px_chain.specs.Chain.{behind_flow, dial_leads, finish_by, given_at, goes_on_by, opened_by, parked_for, pass, pass_body, passed, sequence, stands, turn, turn_answer, turn_answer_head, turn_body, turn_given_head, turn_head, turn_judged, turn_response, turn_returned, turn_taken_answer, turn_taken_body, turn_taken_given, turn_taken_head, turn_taken_returned, turn_taken_whole, turn_whole_answer}
 use Rattle.px_chain.specs.Sights.{Sight, Standing, answers_in, dials_at, request_in, server_in, server_parked, sight_over}
 use Rattle.px_chain.specs.Stages.{At, Parked, Stage, busy, connection, given_body, given_head, idle, next, over, place_of, request_body, response_body, response_head, unparked, upgraded}
 use Rattle.px_chain.specs.Streams.{client_closed}
@@ -227,9 +227,9 @@ turned_by terms (busy at flow (response_body server how)) seen answer opened com
     in_time_from at.parked _ opened prefix (returned_parks at flow server (answers_in flow.request seen).final seen answer) in_time
 turned_by terms (busy at flow (upgraded server)) seen answer opened come prefix in_time = tt
 turned_by terms (busy at flow given_head) seen answer opened come prefix in_time =
-    in_time_from at.parked _ opened prefix (given_parks at (with_start flow seen.now) answer (server_parked at.parked seen) seen.closed) in_time
+    in_time_from at.parked _ opened prefix (given_parks at (given_at flow seen.now) answer (server_parked at.parked seen) seen.closed) in_time
 turned_by terms (busy at flow given_body) seen answer opened come prefix in_time =
-    in_time_from at.parked _ opened prefix (whole_parks at (with_end flow seen.now) answer (server_parked at.parked seen) seen.closed) in_time
+    in_time_from at.parked _ opened prefix (whole_parks at flow answer (server_parked at.parked seen) seen.closed) in_time
 turned_by terms (next at) seen answer opened come prefix in_time = in_time
 turned_by terms over seen answer opened come prefix in_time = tt
 

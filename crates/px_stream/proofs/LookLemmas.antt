@@ -25,11 +25,11 @@ use Rattle.px_exchange.specs.declared.terms.Terms.{Terms}
 use Rattle.px_exchange.specs.Bodies.{content_of}
 use Rattle.px_exchange.specs.Endings.{closed_message, ends_by_fault, ends_early, refuses, shut_server, without_response}
 use Rattle.px_exchange.specs.Finds.{is_relayed, look_answer, look_answer_head, look_head, look_judged, or_leaves}
-use Rattle.px_exchange.specs.Flows.{ask_of, response_of, with_answer, with_body, with_end, with_returned, with_start}
+use Rattle.px_exchange.specs.Flows.{ask_of, response_of, with_answer, with_body, with_returned}
 use Rattle.px_exchange.specs.Places.{dialled_for}
 use Rattle.px_exchange.specs.Requests.{expects, flow_of, is_head, is_http11, judged}
 use Rattle.px_exchange.specs.Texts.{interim_commands, sends_on}
-use Rattle.px_chain.specs.Chain.{Connect, behind, connect_in, leaving, look, pass, pass_body, sight_past, so_far}
+use Rattle.px_chain.specs.Chain.{Connect, behind, connect_in, given_at, leaving, look, pass, pass_body, sight_past, so_far}
 use Rattle.px_chain.specs.Sights.{Sight, answers_in, left_by, request_in, server_in, server_left, server_parked}
 use Rattle.px_chain.specs.Stages.{At, Parked, Stage, all_sent, busy, connection, given_body, given_head, idle, over, request_body, response_body, response_head, upgraded}
 use Rattle.px_chain.proofs.ChainLaws.{commands_append}
@@ -146,12 +146,12 @@ module _ (terms : Terms) (at : At) (new : State) (later : Option Link) (out long
 
     -- ---- a request's body
 
-    given_head_by : (flow : Flow) → Keeps seen.client new → longer ≡ out ++ ask_of (with_start flow seen.now) ResponseHead ∷ [] →
-        is_now ≡ phase.Asked (asked.GivenHead (with_start flow seen.now)) → Looked (busy at flow given_head) seen []
+    given_head_by : (flow : Flow) → Keeps seen.client new → longer ≡ out ++ ask_of (given_at flow seen.now) ResponseHead ∷ [] →
+        is_now ≡ phase.Asked (asked.GivenHead (given_at flow seen.now)) → Looked (busy at flow given_head) seen []
     given_head_by flow keeps grown there =
-        let ask : Command = ask_of (with_start flow seen.now) ResponseHead in
+        let ask : Command = ask_of (given_at flow seen.now) ResponseHead in
         at_look (busy at flow given_head) seen [] (ask ∷ []) (Asks ask) refl grown refl
-        (asked.GivenHead (with_start flow seen.now), there, record { asks = refl; request = keeps; has_side = parked })
+        (asked.GivenHead (given_at flow seen.now), there, record { asks = refl; request = keeps; has_side = parked })
 
     module _ (flow : Flow) where
       missing_by : (given : Option Response) (head : ReadRequest) (all : List Mark) (content : List ℕ) (shut : Bool) → seen.closed ≡ shut → here ≡ part head (body_of all) →
@@ -235,8 +235,8 @@ module _ (terms : Terms) (at : At) (new : State) (later : Option Link) (out long
         let told : List ℕ → Flow = λ l. record (with_body flow l trailers seen.now) { response = Some response } in
         passed_by (Some response) (complete head body trailers size) is
         (given_head_by (record seen { client = drop size seen.client }) (parked ∙ parked_same at.parked (drop size seen.client)) (told body.content) (record { rest = rest; open_still = open_still })
-        (grown ∙ ap (λ l. out ++ ask_of (with_start (told l) seen.now) ResponseHead ∷ []) same)
-        (there ∙ ap (λ l. phase.Asked (asked.GivenHead (with_start (told l) seen.now))) same))
+        (grown ∙ ap (λ l. out ++ ask_of (given_at (told l) seen.now) ResponseHead ∷ []) same)
+        (there ∙ ap (λ l. phase.Asked (asked.GivenHead (given_at (told l) seen.now))) same))
       where
         parked_same : (parked : Option Parked) (client : List ℕ) → parked_link parked seen ≡ parked_link parked (record seen { client = client })
         parked_same None client = refl
@@ -461,9 +461,9 @@ module _ (terms : Terms) (at : At) (seen : Sight) (old new : State) (side later 
       given_head_by terms at new later out longer is_now seen (same ∙ parked) flow (keeps_same seen.client old new once.same keeps) once.gives once.phase
   advanced_by (ready.GivenBody flow) keeps parked place it =
       let (same, once) = parked_looked (ready.GivenBody flow) parked place.client it in
-      let ask : Command = ask_of (with_end flow seen.now) ResponseBody in
+      let ask : Command = ask_of flow ResponseBody in
       at_look terms at new later out longer is_now (busy at flow given_body) seen [] (ask ∷ []) (Asks ask) refl once.gives refl
-      (asked.GivenBody (with_end flow seen.now), once.phase, record { asks = refl; request = keeps_same seen.client old new once.same keeps; has_side = same ∙ parked })
+      (asked.GivenBody flow, once.phase, record { asks = refl; request = keeps_same seen.client old new once.same keeps; has_side = same ∙ parked })
   advanced_by (ready.Connects address) none is_open place it = absurd none
   advanced_by ready.Over keeps is_open place (same, once) =
       at_look terms at new later out longer is_now over seen [] [] (Ends []) refl once.gives refl (ready.Over, once.phase, refl)

@@ -28,12 +28,12 @@ use Rattle.px_exchange.specs.declared.place.Place.{Place}
 use Rattle.px_exchange.specs.declared.terms.Terms.{Terms}
 use Rattle.px_exchange.specs.Dials.{dial_owes}
 use Rattle.px_exchange.specs.Endings.{connection_goes_on}
-use Rattle.px_exchange.specs.Flows.{response_of, with_answer, with_body, with_end, with_returned, with_start}
+use Rattle.px_exchange.specs.Flows.{response_of, with_answer, with_body, with_returned}
 use Rattle.px_exchange.specs.Places.{is_same_address, server_for}
 use Rattle.px_exchange.specs.Replies.{taken_at_body_of, taken_at_head_of, taken_at_request_body, taken_at_request_head, taken_at_response_body, taken_at_response_head}
 use Rattle.px_exchange.specs.Requests.{expects, flow_of, is_head, judged}
 use Rattle.px_exchange.specs.Texts.{interim_commands}
-use Rattle.px_chain.specs.Chain.{behind_flow, dial_leads, finish_by, goes_on_by, parked_for, sequence, side_if, turn, turns, turn_answer, turn_body, turn_head, turn_judged, turn_response, turn_returned, turn_taken_answer, turn_taken_body, turn_taken_given, turn_taken_head, turn_taken_returned, turn_taken_whole}
+use Rattle.px_chain.specs.Chain.{behind_flow, dial_leads, finish_by, given_at, goes_on_by, parked_for, sequence, side_if, turn, turn_answer, turn_body, turn_head, turn_judged, turn_response, turn_returned, turn_taken_answer, turn_taken_body, turn_taken_given, turn_taken_head, turn_taken_returned, turn_taken_whole, turns}
 use Rattle.px_chain.specs.Sights.{Sight, answers_in, client_left, dials_at, request_in, server_behind, server_in, server_left, server_parked, shut_behind, sight_behind}
 use Rattle.px_chain.specs.Stages.{At, Doing, Parked, Sent, Stage, all_sent, busy, connection, given_body, given_head, idle, next, over, place_of, request_body, response_body, response_head, side_parked, unparked, upgraded}
 use Rattle.px_stream.specs.declared.link.Link.{Link}
@@ -102,11 +102,11 @@ module _ (terms : Terms) (seen : Sight) (answer : Timed Reply) where
   same_for at flow (response_body server how) = returned_same at flow server (answers_in flow.request seen).final
   same_for at flow (upgraded server) = refl
   same_for at flow given_head =
-      by_head (with_start flow seen.now).response answer.value
-      (λ taken. turn_taken_given at (with_start flow seen.now) taken answer.moment (server_parked at.parked seen) seen.closed)
+      by_head (given_at flow seen.now).response answer.value
+      (λ taken. turn_taken_given at (given_at flow seen.now) taken answer.moment (server_parked at.parked seen) seen.closed)
   same_for at flow given_body =
-      by_body (with_end flow seen.now).response answer.value
-      (λ taken. turn_taken_returned at (with_end flow seen.now) taken answer.moment (server_parked at.parked seen) seen.closed)
+      by_body flow.response answer.value
+      (λ taken. turn_taken_returned at flow taken answer.moment (server_parked at.parked seen) seen.closed)
 
   pub turn_asked : (stage : Stage) (found : Asked) → asked_in terms stage seen ≡ Some found →
       turn terms stage seen answer ≡ asked_turn terms.place (place_of stage) found seen (used_of stage seen) seen.closed answer
@@ -355,8 +355,8 @@ module _ (terms : Terms) (seen : Sight) (answer : Timed Reply) (requests : State
   led_for at flow (response_head server all_sent) found is keeps is_open = answer_led at flow server keeps (answers_in flow.request seen).final is_open
   led_for at flow (response_body server all_sent) found is keeps is_open = returned_led at flow server keeps (answers_in flow.request seen).final is_open
   led_for at flow (upgraded server) found is keeps is_open = absurd (let no : None ≡ Some found = is in cc)
-  led_for at flow given_head found is keeps parked = given_led at flow keeps parked (with_start flow seen.now).response (with_start flow seen.now) (server_parked at.parked seen) seen.closed
-  led_for at flow given_body found is keeps parked = given_body_led at flow keeps parked (with_end flow seen.now).response (with_end flow seen.now) (server_parked at.parked seen) seen.closed
+  led_for at flow given_head found is keeps parked = given_led at flow keeps parked (given_at flow seen.now).response (given_at flow seen.now) (server_parked at.parked seen) seen.closed
+  led_for at flow given_body found is keeps parked = given_body_led at flow keeps parked flow.response flow (server_parked at.parked seen) seen.closed
 
   led : (stage : Stage) (found : Asked) → IsAsked terms requests side found stage seen → Led stage (turn terms stage seen answer)
   led (idle at) found is = head_led at (request_in seen) is.request is.has_side

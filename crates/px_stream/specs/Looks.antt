@@ -22,10 +22,10 @@ use Rattle.px_exchange.specs.declared.terms.Terms.{Terms}
 use Rattle.px_exchange.specs.Bodies.{HasRead, IsReading}
 use Rattle.px_exchange.specs.Endings.{closed_message, ends_by_fault, ends_early, shut_server, without_response}
 use Rattle.px_exchange.specs.Finds.{is_relayed, look_head, or_leaves}
-use Rattle.px_exchange.specs.Flows.{ask_of, response_of, with_answer, with_body, with_end, with_returned, with_start}
+use Rattle.px_exchange.specs.Flows.{ask_of, response_of, with_answer, with_body, with_returned}
 use Rattle.px_exchange.specs.Places.{dialled_for}
 use Rattle.px_exchange.specs.Requests.{expects, flow_of, is_http11, judged}
-use Rattle.px_chain.specs.Chain.{Connect, behind, connect_in, look, so_far}
+use Rattle.px_chain.specs.Chain.{Connect, behind, connect_in, given_at, look, so_far}
 use Rattle.px_chain.specs.Sights.{Sight}
 use Rattle.px_chain.specs.Stages.{At, Stage}
 use Rattle.px_stream.specs.declared.link.Link.{Link}
@@ -93,11 +93,11 @@ pub record HeadFound (terms : Terms) (index : ℕ) (old new : State) (moment : �
 
 abbrev pub whole_gives : Flow → Option Response → ℕ → List Command
 whole_gives flow None moment = ask_of flow RequestBody ∷ []
-whole_gives flow (Some given) moment = ask_of (with_start (record flow { response = Some given }) moment) ResponseHead ∷ []
+whole_gives flow (Some given) moment = ask_of (given_at (record flow { response = Some given }) moment) ResponseHead ∷ []
 
 abbrev pub whole_phase : Flow → Option Response → ℕ → Phase
 whole_phase flow None moment = phase.Asked (asked.RequestBody flow)
-whole_phase flow (Some given) moment = phase.Asked (asked.GivenHead (with_start (record flow { response = Some given }) moment))
+whole_phase flow (Some given) moment = phase.Asked (asked.GivenHead (given_at (record flow { response = Some given }) moment))
 
 abbrev pub body_gives : Flow → Option Response → Progress → List ℕ → ℕ → Used → Bool → List Command
 body_gives flow given (progress.Whole trailers) content moment used closed = whole_gives (with_body flow content trailers moment) given moment
@@ -192,9 +192,9 @@ LookFound terms at used moment closed (ready.ResponseHead flow server) old new s
 LookFound terms at used moment closed (ready.ResponseBody flow server body) old new side later out longer next =
     (new ≡ old) × ReturnFound flow server body side later moment used closed out longer next
 LookFound terms at used moment closed (ready.GivenHead flow) old new side later out longer next =
-    (later ≡ side) × FoundAtOnce old new (ask_of (with_start flow moment) ResponseHead ∷ []) out longer (phase.Asked (asked.GivenHead (with_start flow moment))) next
+    (later ≡ side) × FoundAtOnce old new (ask_of (given_at flow moment) ResponseHead ∷ []) out longer (phase.Asked (asked.GivenHead (given_at flow moment))) next
 LookFound terms at used moment closed (ready.GivenBody flow) old new side later out longer next =
-    (later ≡ side) × FoundAtOnce old new (ask_of (with_end flow moment) ResponseBody ∷ []) out longer (phase.Asked (asked.GivenBody (with_end flow moment))) next
+    (later ≡ side) × FoundAtOnce old new (ask_of flow ResponseBody ∷ []) out longer (phase.Asked (asked.GivenBody flow)) next
 LookFound terms at used moment closed looked old new side later out longer next = (later ≡ side) × Rests old new out longer looked next
 
 -- what the readers have to be at

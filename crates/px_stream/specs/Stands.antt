@@ -21,10 +21,10 @@ use Rattle.px_exchange.specs.declared.ending.Used.{Used}
 use Rattle.px_exchange.specs.declared.ending.Used.TheVariants.{NoServer, ByServer}
 use Rattle.px_exchange.specs.declared.terms.Terms.{Terms}
 use Rattle.px_exchange.specs.Bodies.{content_of}
-use Rattle.px_exchange.specs.Flows.{hook_of, response_of, with_answer, with_body, with_end, with_returned, with_start}
+use Rattle.px_exchange.specs.Flows.{hook_of, response_of, with_answer, with_body, with_returned}
 use Rattle.px_exchange.specs.Requests.{is_head, expects, flow_of, judged}
 use Rattle.px_exchange.specs.Texts.{interim_commands}
-use Rattle.px_chain.specs.Chain.{Connect, connect_in, look, so_far}
+use Rattle.px_chain.specs.Chain.{Connect, connect_in, given_at, look, so_far}
 use Rattle.px_chain.specs.Sights.{Sight, Standing, IsWithin, answers_in, client_left, request_in, server_left, sight_over}
 use Rattle.px_chain.specs.Stages.{At, Doing, Parked, Stage, all_sent, busy, connection, given_body, given_head, idle, next, over, place_of, request_body, response_body, response_head, upgraded}
 use Rattle.px_stream.specs.declared.link.Link.{Link}
@@ -85,8 +85,8 @@ asked_for at flow connection seen = Some (asked.Connection flow at.dials)
 asked_for at flow (response_head server sent) seen = answer_asked flow server (head_in (answers_in flow.request seen).final) seen.now
 asked_for at flow (response_body server sent) seen = returned_asked flow server (answers_in flow.request seen).final seen.now
 asked_for at flow (upgraded server) seen = None
-asked_for at flow given_head seen = Some (asked.GivenHead (with_start flow seen.now))
-asked_for at flow given_body seen = Some (asked.GivenBody (with_end flow seen.now))
+asked_for at flow given_head seen = Some (asked.GivenHead (given_at flow seen.now))
+asked_for at flow given_body seen = Some (asked.GivenBody flow)
 
 abbrev pub asked_in : Terms → Stage → Sight → Option Asked
 asked_in terms (idle at) seen = head_asked terms at (head_in (request_in seen)) seen.now

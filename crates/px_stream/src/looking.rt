@@ -2,9 +2,10 @@
 ghost use Rattle.std.specs.Prelude.{◌≡◌, ◌++◌, ◌∷◌, [], None, IfOk, OnOk};
 ghost use Rattle.px_event.specs.declared.ask.Hook.TheVariants.{ResponseHead as AtHead, ResponseBody as AtBody};
 ghost use Rattle.px_event.specs.declared.command.Command.TheVariants as commands;
-ghost use Rattle.px_exchange.specs.Flows.{ask_of, with_end, with_start};
+ghost use Rattle.px_exchange.specs.Flows.{ask_of};
 ghost use Rattle.px_exchange.specs.Endings.{closed_message, ends_by_fault, ends_early, shut_server};
 ghost use Rattle.px_exchange.specs.Places.{dialled_for};
+ghost use Rattle.px_chain.specs.Chain.{given_at};
 ghost use Rattle.px_stream.specs.Looks.{LookFound, MayLook, is_over};
 
 use crate::at::At;
@@ -78,20 +79,19 @@ fn dial(
 
 // Asks the hook of the head of a response that was given in place of the server's.
 fn ask_given_head(now: Now, flow: Boxed<Flow>, out: &mut Vec<Command>) -> Result<Phase, NoMemory>
-    ensures gives { OnOk result (out.new.items ≡ out.old.items ++ ask_of (with_start flow now.moment) AtHead ∷ []) }
-    ensures phase { IfOk result (λ next. next ≡ Phase.Asked (Asked.GivenHead (with_start flow now.moment))) }
+    ensures gives { OnOk result (out.new.items ≡ out.old.items ++ ask_of (given_at flow now.moment) AtHead ∷ []) }
+    ensures phase { IfOk result (λ next. next ≡ Phase.Asked (Asked.GivenHead (given_at flow now.moment))) }
 {
-    let flow = flows::with_start(flow, now.moment);
+    let flow = flows::with_end(flows::with_start(flow, now.moment), now.moment);
     ask(&flow, Hook::ResponseHead, out)?;
     Ok(Phase::Asked(Asked::GivenHead { flow }))
 }
 
 // And that of the whole of it.
 fn ask_given_body(now: Now, flow: Boxed<Flow>, out: &mut Vec<Command>) -> Result<Phase, NoMemory>
-    ensures gives { OnOk result (out.new.items ≡ out.old.items ++ ask_of (with_end flow now.moment) AtBody ∷ []) }
-    ensures phase { IfOk result (λ next. next ≡ Phase.Asked (Asked.GivenBody (with_end flow now.moment))) }
+    ensures gives { OnOk result (out.new.items ≡ out.old.items ++ ask_of flow AtBody ∷ []) }
+    ensures phase { IfOk result (λ next. next ≡ Phase.Asked (Asked.GivenBody flow)) }
 {
-    let flow = flows::with_end(flow, now.moment);
     ask(&flow, Hook::ResponseBody, out)?;
     Ok(Phase::Asked(Asked::GivenBody { flow }))
 }

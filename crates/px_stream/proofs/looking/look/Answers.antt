@@ -7,8 +7,9 @@ use Rattle.px_stream.specs.declared.phase.Asked.TheVariants as asked
 use Rattle.px_stream.specs.declared.phase.Phase.TheVariants as phase
 use Rattle.px_stream.specs.declared.phase.Wanted.TheVariants as ready
 use Rattle.px_exchange.specs.Endings.{shut_server}
-use Rattle.px_exchange.specs.Flows.{ask_of, with_end, with_start}
+use Rattle.px_exchange.specs.Flows.{ask_of}
 use Rattle.px_exchange.specs.Places.{dialled_for}
+use Rattle.px_chain.specs.Chain.{given_at}
 use Rattle.px_chain.specs.Stages.{At}
 use Rattle.px_stream.specs.Looks.{FoundAtOnce, HeadFound}
 use Rattle.px_stream.proofs.LookingLemmas.{at_once, besides, head_looked, nothing_given}
@@ -53,14 +54,14 @@ returns-in-ResponseBody c = record { looks = rw c.in-ResponseBody.is (besides c.
 
 pub returns-in-GivenHead : goal.returns-in-GivenHead
 returns-in-GivenHead c = record {
-  looks = rw c.in-GivenHead.is (at_once c.ask_given_head.result c.args.side.now c.args.requests.now (ask_of (with_start c.in-GivenHead.flow c.args.now.moment) ResponseHead ∷ []) c.args.out.now.items
-      c.ask_given_head.new.out.items (phase.Asked (asked.GivenHead (with_start c.in-GivenHead.flow c.args.now.moment))) c.ask_given_head.ensures.gives c.ask_given_head.ensures.phase);
+  looks = rw c.in-GivenHead.is (at_once c.ask_given_head.result c.args.side.now c.args.requests.now (ask_of (given_at c.in-GivenHead.flow c.args.now.moment) ResponseHead ∷ []) c.args.out.now.items
+      c.ask_given_head.new.out.items (phase.Asked (asked.GivenHead (given_at c.in-GivenHead.flow c.args.now.moment))) c.ask_given_head.ensures.gives c.ask_given_head.ensures.phase);
 }
 
 pub returns-in-GivenBody : goal.returns-in-GivenBody
 returns-in-GivenBody c = record {
-  looks = rw c.in-GivenBody.is (at_once c.ask_given_body.result c.args.side.now c.args.requests.now (ask_of (with_end c.in-GivenBody.flow c.args.now.moment) ResponseBody ∷ []) c.args.out.now.items
-      c.ask_given_body.new.out.items (phase.Asked (asked.GivenBody (with_end c.in-GivenBody.flow c.args.now.moment))) c.ask_given_body.ensures.gives c.ask_given_body.ensures.phase);
+  looks = rw c.in-GivenBody.is (at_once c.ask_given_body.result c.args.side.now c.args.requests.now (ask_of c.in-GivenBody.flow ResponseBody ∷ []) c.args.out.now.items
+      c.ask_given_body.new.out.items (phase.Asked (asked.GivenBody c.in-GivenBody.flow)) c.ask_given_body.ensures.gives c.ask_given_body.ensures.phase);
 }
 
 pub returns-in-Connects : goal.returns-in-Connects
