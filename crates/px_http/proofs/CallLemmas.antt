@@ -1,5 +1,5 @@
 -- The calls of a conversation, from those of its stream.
-use Rattle.std.proofs.Common.{◌≡◌, ℕ, ◌+◌, ◌≤◌, List, [], refl, ap, sym, ◌∙◌, subst, arith}
+use Rattle.std.proofs.Common.{◌≡◌, ℕ, ◌+◌, ◌≤◌, List, [], ap, arith}
 use Rattle.px_event.specs.declared.command.Command.{Command}
 use Rattle.px_event.specs.declared.event.Event.{Event}
 use Rattle.px_event.specs.declared.reply.Reply.{Reply}
@@ -10,7 +10,6 @@ use Rattle.px_event.proofs.Steps.{Takes, begins, onward, past_end, resume_goes, 
 use Rattle.px_chain.specs.Sights.{Standing}
 use Rattle.px_stream.proofs.AnywhereLemmas.{waits_first_look}
 use Rattle.px_stream.specs.Anywhere.{IsInSequence, IsNew, ResumesAnywhere, TakesAnywhere}
-use Rattle.px_stream.specs.declared.stream.Stream.{Stream}
 use Rattle.px_http.specs.declared.conversation.HttpConv.{HttpConv}
 use Rattle.px_http.specs.Stands.{HttpStands, ahead_of, chain_of, is_there, settles_there, start_at}
 

@@ -269,7 +269,7 @@ module _ (terms : Terms) where
 
   passes : (stage : Stage) (seen : Sight) → is_counted stage ≡ true → Leaves stage [] (pass stage seen)
   passes (idle at) seen is = stays (idle at) is
-  passes (busy at flow (request_body given)) seen is = passed_by at flow given (request_in at seen) seen.now is
+  passes (busy at flow (request_body given)) seen is = passed_by at flow given (request_in seen) seen.now is
   passes (busy at flow connection) seen is = stays (busy at flow connection) is
   passes (busy at flow (response_head side how)) seen is = stays (busy at flow (response_head side how)) is
   passes (busy at flow (response_body side how)) seen is = stays (busy at flow (response_body side how)) is

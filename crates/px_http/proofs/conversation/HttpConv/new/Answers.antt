@@ -8,4 +8,4 @@ new-requires c = record { few = c.requires.few; side = c.requires.side }
 
 pub returns-clause-stands : goal.returns-clause-stands
 returns-clause-stands c =
-    made_first (record { stream = c.in_ok-new.new }) _ _ (ap (λ (a : At). a.flow) c.in_ok-new.ensures.at) (ap (λ (a : At). a.dials) c.in_ok-new.ensures.at) c.requires.dials c.in_ok-new.ensures.new c.in_ok-new.ensures.stands
+    made_first (record { stream = c.in_ok-new.field-0 }) _ _ (ap (λ (a : At). a.flow) c.in_ok-new.ensures.at) (ap (λ (a : At). a.dials) c.in_ok-new.ensures.at) c.requires.dials c.in_ok-new.ensures.new c.in_ok-new.ensures.stands

@@ -1,8 +1,6 @@
-use Rattle.std.proofs.Common.{◌≤◌, arith}
 use Rattle.std.proofs.lemmas.Result.{on_ok_weaker}
 use Rattle.px_event.specs.Layer.{Replied}
 use Rattle.px_event.proofs.Steps.{sound_after}
-use Rattle.px_stream.specs.Tells.{sequence_left}
 use Rattle.px_http.specs.Stands.{HttpStands, somewhere}
 use Rattle.px_http.specs.declared.conversation.HttpConv.{HttpConv}
 use Rattle.px_http.proofs.CallLemmas.{resume_goes_on}
