@@ -36,9 +36,9 @@ use Rattle.px_stream.specs.declared.phase.Phase.TheVariants as phase
 use Rattle.px_stream.specs.declared.phase.Wanted.{Wanted}
 use Rattle.px_stream.specs.declared.phase.Wanted.TheVariants as ready
 use Rattle.px_stream.specs.declared.stream.Stream.{Stream}
-use Rattle.px_stream.specs.Tells.{is_idle, outcome_in, phase_flow, sequence_left, upgraded_side}
+use Rattle.px_stream.specs.Tells.{closed_in, is_idle, outcome_in, phase_flow, sequence_left, upgraded_side}
 use Rattle.px_stream.specs.Anywhere.{IsInSequence}
-use Rattle.px_stream.specs.Stands.{IsLast, IsOpen, LinkKeeps, PhaseAt, awaited_in, stage_of, used_in}
+use Rattle.px_stream.specs.Stands.{IsLast, IsOpen, LinkKeeps, PhaseAt, awaited_in, stage_of}
 use Rattle.px_resend.specs.declared.child.Child.{Child}
 use Rattle.px_resend.specs.declared.child.Child.TheVariants as children
 use Rattle.px_resend.specs.Chain.{flows_of, goes_on, look_by, resend_chain}
@@ -74,9 +74,9 @@ never_asks : (closed : Bool) (ask : Command) → or_leaves closed [] (Ends []) �
 never_asks closed ask is = let no : Asks ask ≡ Ends [] = ends_at_once closed (Asks ask) is in cc
 
 -- the server's side that is open
-used_open : (server : ℕ) (bytes : List ℕ) (shut : Bool) (side : Option Link) → IsOpen (LinkKeeps server bytes shut) side → used_in side ≡ ByServer server shut
+used_open : (server : ℕ) (bytes : List ℕ) (shut : Bool) (side : Option Link) → IsOpen (LinkKeeps server bytes shut) side → ByServer server (closed_in side) ≡ ByServer server shut
 used_open server bytes shut None keeps = absurd keeps
-used_open server bytes shut (Some link) keeps = ap (λ n. ByServer n link.closed) keeps.server ∙ ap (ByServer server) keeps.closed
+used_open server bytes shut (Some link) keeps = ap (ByServer server) keeps.closed
 
 -- what is asked is said to no client
 asked_of_none : (ask : Command) → IsAskOf any_flow ask → to_servers (ask ∷ []) ≡ ask ∷ []
@@ -181,7 +181,7 @@ module _ (terms : Terms) (recorded : Request) (boxed : Box Stream) (next_child :
       -- ---- it ends
 
       -- the flow and the side of one that a response of code 101 finished
-      finished_as : (flow : Flow) (server : ℕ) → boxed.value.phase ≡ phase.Ready (ready.Upgraded flow server) → used_in boxed.value.side ≡ server_in server seen →
+      finished_as : (flow : Flow) (server : ℕ) → boxed.value.phase ≡ phase.Ready (ready.Upgraded flow server) → ByServer server (closed_in boxed.value.side) ≡ server_in server seen →
           more ≡ finished_by (phase_flow boxed.value.phase) (upgraded_side boxed.value.phase boxed.value.side) → more ≡ finished_by (Some flow) (Some (server_in server seen))
       finished_as flow server is_phase is_side gave =
           gave ∙ (ap (λ p. finished_by (phase_flow p) (upgraded_side p boxed.value.side)) is_phase ∙ ap (λ u. finished_by (Some flow) (Some u)) is_side)
