@@ -77,7 +77,7 @@ fn begin(alloc: Global) -> Result<Run, NoMemory>
         side: None,
         inside: None,
     };
-    let conversation = HttpConv::new(alloc, 0, None, place, 0, 0);
+    let conversation = HttpConv::new(alloc, 0, None, place, 0, 0)?;
     Ok(Run {
         gate: Gate::new(alloc, conversation),
         given: Vec::new(alloc),

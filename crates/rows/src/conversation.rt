@@ -134,7 +134,8 @@ fn new_conversation(alloc: Global, first_flow: u32, next_server: u32) -> Result<
         side: None,
         inside: None,
     };
-    Ok(HttpConv::new(alloc, 3, Some(client), place, first_flow, next_server))
+    let conversation = HttpConv::new(alloc, 3, Some(client), place, first_flow, next_server)?;
+    Ok(conversation)
 }
 
 // The n-th thing is heard at moment 10 n.
