@@ -6,4 +6,5 @@ pub mod HeadFits
 pub mod Laws
 pub mod Mask
 pub mod Reader
+pub mod Room
 pub mod Text

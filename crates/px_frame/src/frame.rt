@@ -99,7 +99,7 @@ fn read_payload(alloc: Global, bytes: &[u8], head: FrameHead) -> Result<Front, N
     if behind.len() < length {
         return Ok(Front::Nothing);
     }
-    let mut payload = Vec::new(alloc);
+    let mut payload = Vec::with_capacity(alloc, length)?;
     push_under_key(&mut payload, head.key, &behind[..length])?;
     let frame = Frame {
         fin: head.fin,

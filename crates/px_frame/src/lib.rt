@@ -13,8 +13,9 @@
 //! (`specs/Frames.antt`). It goes from frame to frame, and of a frame's head it decides by computing (`specs/Head.antt`): no whole head
 //! yet, a head, or a fault. Faults have an order, and each is told at its byte: those of bytes 0 and 1 as soon as that byte is heard,
 //! those of the length at its last byte, and none waits for more. `FrameReader` answers this relation of all bytes that it was fed,
-//! however they were cut. `write_frame` writes the shortest form (`specs/Text.antt`). The laws say that what is written is read as
-//! itself, that whatever is read is what would be written, and that no cut shows.
+//! however they were cut. It keeps the bytes of a frame that has begun, in room for at most twice as many (`SnugBytes`). `write_frame` writes
+//! the shortest form (`specs/Text.antt`). The laws say that what is written is read as itself, that whatever is read is what would be written,
+//! and that no cut shows.
 #![tactic(auto)]
 
 mod fault;
@@ -23,10 +24,12 @@ mod head;
 pub mod laws;
 mod mask;
 mod reader;
+mod snug;
 mod write;
 
 pub use fault::{FrameError, FrameFault};
 pub use frame::Frame;
 pub use head::{FrameHead, HeadStep, read_head};
 pub use reader::FrameReader;
+pub use snug::SnugBytes;
 pub use write::write_frame;

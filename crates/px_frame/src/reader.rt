@@ -1,28 +1,30 @@
 //! A reader that is fed the bytes of one side of a connection and gives the frames that stand in them.
 //!
-//! It keeps the bytes of a frame that has begun. Where a call gave frames, what is left behind them is moved to the front of the buffer once,
-//! and that is no more than the call brought; where it gave none, nothing is moved. So each byte is moved a bounded number of times.
-ghost use Rattle.std.specs.Prelude.{◌≡◌, ◌≤◌, ◌++◌, [], None, Some, IfOk, drop, length};
+//! It keeps the bytes of a frame that has begun, in room for at most twice as many (`SnugBytes`). Where none wait, the frames of a call are read from its bytes,
+//! and only what is left behind them is kept. Else they are joined to those that wait: where the call then gave frames, what is left behind these is moved to the
+//! front of the buffer once, and that is no more than the call brought; where it gave none, nothing is moved. So each byte is moved a bounded number of times.
+ghost use Rattle.std.specs.Prelude.{◌≡◌, ◌≤◌, ◌+◌, ◌++◌, [], None, Some, IfOk, OnOk, drop, length};
 ghost use Rattle.px_text.specs.Prefix.{IsPrefixOf};
 ghost use Rattle.px_frame.specs.Head.{most, so_far};
-ghost use Rattle.px_frame.specs.Endings.{IsEnding};
+ghost use Rattle.px_frame.specs.Endings.{IsEnding, IsLeft, IsWithin};
 
 use crate::fault::{FrameError, FrameFault};
 use crate::frame::{Frame, Front, Standing, read_front};
 use crate::head::has_length;
+use crate::snug::SnugBytes;
 use px_text::NoMemory;
 use std::alloc::Global;
 use std::marker::Model;
 
 /// A reader of the frames of one side. In a contract it is whether frames are to be masked, the payload so far of a message that has
-/// begun, the bytes of a frame that has begun, and the fault that was met (`specs/Reader.antt`).
+/// begun, the bytes of a frame that has begun, and the fault that was met (`specs/Reader.antt`). Its room is for at most twice those bytes.
 ///
 /// After `NoMemory` it may only be dropped.
 #[derive(Debug, Drop)]
 pub struct FrameReader {
     masked: bool,
     begun: Option<u64>,
-    rest: Vec<u8>,
+    rest: SnugBytes,
     failed: Option<FrameFault>,
 }
 
@@ -33,7 +35,7 @@ impl Model for FrameReader {
 
     ghost Value = { Reading };
 
-    ghost view = { λ r. record { masked = r.masked; begun = r.begun; rest = r.rest.items; failed = r.failed } };
+    ghost view = { λ r. record { masked = r.masked; begun = r.begun; rest = r.rest; failed = r.failed } };
 
     ghost invariant = { λ r. so_far r.begun ≤ most };
 }
@@ -55,7 +57,7 @@ impl FrameReader {
         FrameReader {
             masked,
             begun: None,
-            rest: Vec::new(alloc),
+            rest: SnugBytes::new(alloc),
             failed: None,
         }
     }
@@ -65,6 +67,13 @@ impl FrameReader {
         ensures { result ≡ length self.now.rest }
     {
         self.rest.len()
+    }
+
+    /// How many bytes its room is for: at most twice those that it keeps, so none where it keeps none.
+    pub fn room(&self) -> usize
+        ensures { result ≤ length self.now.rest + length self.now.rest }
+    {
+        self.rest.room()
     }
 
     /// Hears the bytes behind those that came before, and adds the frames that they complete.
@@ -82,22 +91,75 @@ impl FrameReader {
         let mut at = Standing {
             begun: self.begun,
             left,
-            judged: has_length(&self.rest),
+            judged: has_length(self.rest.as_slice()),
         };
-        self.rest.extend_from_slice(bytes)?;
-        let alloc = *self.rest.allocator();
-        match read_frames(alloc, &self.rest, self.masked, &mut at, out)? {
-            Ending::Rest(used) => {
+        match read_on(&mut self.rest, bytes, self.masked, &mut at, out)? {
+            Ending::Rest(_) => {
                 self.begun = at.begun;
-                move_to_front(&mut self.rest, used);
                 Ok(())
             }
             Ending::Fault(fault) => {
                 self.begun = None;
-                self.rest.clear();
                 self.failed = Some(fault);
                 Err(FrameError::Fault(fault))
             }
+        }
+    }
+}
+
+// Adds the frames of the bytes that wait and of these behind them; then those wait that are left.
+fn read_on(
+    waiting: &mut SnugBytes,
+    bytes: &[u8],
+    masked: bool,
+    at: &mut Standing,
+    out: &mut Vec<Frame>,
+) -> Result<Ending, NoMemory>
+    requires { so_far at.old.begun ≤ most }
+    ensures kept { IsPrefixOf out.old.items out.new.items }
+    ensures ending { IfOk result (λ end. IsEnding masked at.old (waiting.old ++ bytes.now) (drop (length out.old.items) out.new.items) end at.new) }
+    ensures left { IfOk result (λ end. IsLeft (waiting.old ++ bytes.now) end waiting.new) }
+{
+    if waiting.len() == 0 {
+        return read_piece(waiting, bytes, masked, at, out);
+    }
+    waiting.add(bytes)?;
+    let ending = read_frames(waiting.allocator(), waiting.as_slice(), masked, at, out)?;
+    keep(waiting, ending)?;
+    Ok(ending)
+}
+
+// The same where none wait: the bytes that are used are not copied.
+fn read_piece(
+    waiting: &mut SnugBytes,
+    bytes: &[u8],
+    masked: bool,
+    at: &mut Standing,
+    out: &mut Vec<Frame>,
+) -> Result<Ending, NoMemory>
+    requires begun { so_far at.old.begun ≤ most }
+    requires none { length waiting.old ≡ 0 }
+    ensures kept { IsPrefixOf out.old.items out.new.items }
+    ensures ending { IfOk result (λ end. IsEnding masked at.old bytes.now (drop (length out.old.items) out.new.items) end at.new) }
+    ensures left { IfOk result (λ end. IsLeft bytes.now end waiting.new) }
+{
+    let ending = read_frames(waiting.allocator(), bytes, masked, at, out)?;
+    if let Ending::Rest(used) = ending {
+        waiting.add(&bytes[used..])?;
+    }
+    Ok(ending)
+}
+
+// Takes away what was used: all, where there is a fault.
+fn keep(waiting: &mut SnugBytes, ending: Ending) -> Result<(), NoMemory>
+    requires { IsWithin (length waiting.old) ending }
+    ensures { OnOk result (IsLeft waiting.old ending waiting.new) }
+{
+    match ending {
+        Ending::Rest(used) => waiting.skip(used),
+        Ending::Fault(_) => {
+            waiting.clear();
+            Ok(())
         }
     }
 }
@@ -126,16 +188,4 @@ fn read_frames(
             }
         }
     }
-}
-
-fn move_to_front(buffer: &mut Vec<u8>, used: usize)
-    requires { used ≤ length buffer.old.items }
-    ensures { buffer.new.items ≡ drop used buffer.old.items }
-{
-    if used == 0 {
-        return;
-    }
-    let rest = buffer.len() - used;
-    buffer.copy_within(used.., 0);
-    buffer.truncate(rest);
 }

@@ -7,11 +7,29 @@ ghost use Rattle.px_frame.specs.Text as spec;
 use crate::mask::push_under_key;
 use px_text::NoMemory;
 
+/// The most bytes of a head: two, eight of the length and four of the key.
+const MOST_HEAD: usize = 14;
+
 /// Appends the frame: its head with the length in the shortest form, the key, and the payload under it; without a key the payload as it is.
 ///
 /// The opcode is 0, 1, 2, 8, 9 or 10; a control frame, of 8 or more, has FIN and a payload of at most 125 bytes. After `NoMemory` a
 /// prefix of the frame's bytes may have been appended.
 pub fn write_frame(
+    fin: bool,
+    opcode: u8,
+    key: Option<[u8; 4]>,
+    payload: &[u8],
+    out: &mut Vec<u8>,
+) -> Result<(), NoMemory>
+    requires may { MayWrite fin opcode (length payload.now) }
+    ensures ok { OnOk result (out.new.items ≡ out.old.items ++ frame_text fin opcode key payload.now) }
+    ensures err { OnErr result (AddsPrefixOf (frame_text fin opcode key payload.now) out.old.items out.new.items) }
+{
+    out.reserve(payload.len().saturating_add(MOST_HEAD))?;
+    push_frame(fin, opcode, key, payload, out)
+}
+
+fn push_frame(
     fin: bool,
     opcode: u8,
     key: Option<[u8; 4]>,

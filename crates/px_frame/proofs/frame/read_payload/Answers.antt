@@ -14,5 +14,5 @@ returns c =
     let tail = take (length bytes - head.size) (drop head.size bytes) in
     payload_stands head bytes c.in_ok-new.field-0 c.requires there
     (c.in_ok-new.ensures ∙ c.in_ok-push_under_key.ensures.ok
-    ∙ ap (λ (l : List ℕ). l ++ under_key head.key (take head.length tail)) c.new-payload.ensures.items
+    ∙ ap (λ (l : List ℕ). l ++ under_key head.key (take head.length tail)) c.in_ok-payload.ensures.items
     ∙ ap (λ (t : List ℕ). under_key head.key (take head.length t)) same)

@@ -2,7 +2,7 @@ use Rattle.std.proofs.Common.{length}
 use Rattle.px_frame.specs.Mask.{under_key}
 use Rattle.px_frame.specs.Text.{head_text}
 use Rattle.px_text.proofs.PrefixLemmas.{err_behind, err_first, ok_behind}
-use Rattle.px_frame.proofs.write.write_frame.Goals as goal
+use Rattle.px_frame.proofs.write.push_frame.Goals as goal
 
 pub returns-in_err-push_head-clause-err : goal.returns-in_err-push_head-clause-err
 returns-in_err-push_head-clause-err c =
