@@ -5,6 +5,7 @@ pub mod GoesLemmas
 pub mod HalfLemmas
 pub mod HearLemmas
 pub mod KeepLemmas
+pub mod LengthLemmas
 pub mod OrderLemmas
 pub mod OwedLemmas
 pub mod RecordLemmas

@@ -4,6 +4,7 @@ pub mod Failures
 pub mod Fronts
 pub mod Kept
 pub mod Laws
+pub mod Lengths
 pub mod Messages
 pub mod Order
 pub mod Peers

@@ -3,17 +3,19 @@ ghost use Rattle.std.specs.Prelude.{◌≡◌, IfOk};
 ghost use Rattle.std.specs.Str.{is_utf8 as utf8};
 ghost use Rattle.px_relay.specs.Messages as spec;
 
+use crate::lengths::Lengths;
 use px_frame::Frame;
 use px_text::{Bytes, NoMemory};
 use std::alloc::Global;
 use std::marker::Model;
 use std::str;
 
-/// A message, whole or as far as it has come. In a contract it is the record of `specs/Messages.antt`.
+/// A message, whole or as far as it has come. In a contract it is the record of `specs/Messages.antt`. The lengths of its fragments take less than a byte for
+/// each byte of their frames (`Lengths`).
 #[derive(Debug, Drop)]
 pub(crate) struct Gathered {
     pub(crate) text: bool,
-    pub(crate) lengths: Vec<usize>,
+    pub(crate) lengths: Lengths,
     pub(crate) payload: Bytes,
 }
 
@@ -22,7 +24,7 @@ impl Model for Gathered {
 
     ghost Value = { Message };
 
-    ghost view = { λ m. record { text = m.text; lengths = m.lengths.items; payload = m.payload } };
+    ghost view = { λ m. record { text = m.text; lengths = m.lengths; payload = m.payload } };
 }
 
 /// The message that has begun, if one has, with this frame of data more.
@@ -42,11 +44,9 @@ pub(crate) fn gather(
 fn begin(alloc: Global, frame: Frame) -> Result<Gathered, NoMemory>
     ensures { IfOk result (λ made. made ≡ spec.gathered None frame) }
 {
-    let mut lengths = Vec::new(alloc);
-    lengths.push(frame.payload.len())?;
     Ok(Gathered {
         text: frame.opcode == 1,
-        lengths,
+        lengths: Lengths::new(alloc, frame.payload.len()),
         payload: frame.payload,
     })
 }

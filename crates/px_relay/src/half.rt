@@ -1,5 +1,6 @@
 //! One side of a WebSocket: the reader of its frames, those that wait to be worked off, and its message that has begun.
 ghost use Rattle.std.specs.Prelude.{◌≡◌, ◌≤◌, ◌+◌, ◌-◌, ◌^◌, [], None, OnOk, length, min};
+ghost use Rattle.std.specs.VecDeque.{deque_capacity};
 ghost use Rattle.px_relay.specs.Calls.{AllWritable, Hears, IsFresh, Pops};
 ghost use Rattle.px_relay.specs.Kept.{begun_keeps, half_keeps, half_size};
 
@@ -55,12 +56,18 @@ impl Half {
         Ok(())
     }
 
-    /// Takes the next frame that waits.
+    /// Takes the next frame that waits. Where none does, the room of the queue is let go.
     pub(crate) fn pop(&mut self) -> Option<Frame>
-        ensures { Pops self.old self.new result }
+        ensures pops { Pops self.old self.new result }
+        ensures room { result ≡ None → deque_capacity self.new.queue ≡ 0 }
     {
+        if self.queue.is_empty() {
+            self.queue.shrink_to_fit();
+            return None;
+        }
         self.queue.pop_front()
     }
+
     /// How many bytes it keeps, or 2^64 - 1 where that is more.
     pub(crate) fn size(&self) -> usize
         ensures { result ≡ min (half_keeps self.now) (2 ^ 64 - 1) }

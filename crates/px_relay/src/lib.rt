@@ -46,6 +46,7 @@ mod gathered;
 mod half;
 pub mod laws;
 mod layer;
+mod lengths;
 mod peer;
 mod phase;
 mod sender;

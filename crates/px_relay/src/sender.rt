@@ -7,6 +7,7 @@ ghost use Rattle.px_relay.specs.Messages as spec;
 ghost use Rattle.px_relay.specs.Sending.{close_frame};
 
 use crate::gathered::Gathered;
+use crate::lengths::Lengths;
 use crate::peer::Peer;
 use px_event::Command;
 use px_frame::{Frame, write_frame};
@@ -149,33 +150,37 @@ impl Sender {
         &mut self,
         to: Peer,
         is_text: bool,
-        lengths: &[usize],
+        lengths: &Lengths,
         payload: &[u8],
         text: &mut Vec<u8>,
     ) -> Result<(), NoMemory>
         ensures sender { OnOk result (self.new ≡ with_keys self.old (keys_behind_all to self.old.keys (spec.fragments (spec.opcode_of is_text) lengths.now payload.now))) }
         ensures text { OnOk result (text.new.items ≡ text.old.items ++ text_by to self.old.keys (spec.fragments (spec.opcode_of is_text) lengths.now payload.now)) }
     {
-        let mut counts = lengths;
+        let mut walk = lengths.walk();
+        let mut next = walk.next();
         let mut rest = payload;
         let mut opcode = if is_text { 1 } else { 2 };
-        'counts: while let [count, more @ ..] = counts {
-            let at = cmp::min(*count, rest.len());
-            self.push(to, more.is_empty(), opcode, &rest[..at], text)?;
+        'counts: while let Some(count) = next {
+            next = walk.next();
+            let at = cmp::min(count, rest.len());
+            self.push(to, next.is_none(), opcode, &rest[..at], text)?;
             opcode = 0;
             rest = &rest[at..];
-            counts = more;
         }
         Ok(())
     }
 }
 
 // The lengths of the frames of a payload of another length.
-fn cut_lengths(alloc: Global, count: usize) -> Result<Vec<usize>, NoMemory>
-    ensures { IfOk result (λ lengths. lengths.items ≡ spec.cut_lengths count) }
+fn cut_lengths(alloc: Global, count: usize) -> Result<Lengths, NoMemory>
+    ensures { IfOk result (λ lengths. lengths ≡ spec.cut_lengths count) }
 {
-    let mut lengths = Vec::new(alloc);
-    let mut left = count;
+    if count <= MOST_IN_FRAME {
+        return Ok(Lengths::new(alloc, count));
+    }
+    let mut lengths = Lengths::new(alloc, MOST_IN_FRAME);
+    let mut left = count - MOST_IN_FRAME;
     'cuts: while left > MOST_IN_FRAME {
         lengths.push(MOST_IN_FRAME)?;
         left -= MOST_IN_FRAME;
