@@ -119,7 +119,7 @@ impl WsLayer {
     {
         let left = self.left();
         let Rests { client, server } = self.take_rests(shut);
-        self.pending = server;
+        self.pending = lone(server);
         self.client.hear(self.alloc, client.as_slice(), left)?;
         self.go_on(out)
     }
@@ -200,6 +200,16 @@ impl WsLayer {
         self.moment = moment;
         self.take_reply(held, reply, out)
     }
+}
+
+// The same bytes. Of none no share is kept in the piece that they were a part of.
+fn lone(bytes: Bytes) -> Bytes
+    ensures { result ≡ bytes }
+{
+    if bytes.is_empty() {
+        return Bytes::empty();
+    }
+    bytes
 }
 
 // ---- what is seen of it
