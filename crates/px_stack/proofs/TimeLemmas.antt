@@ -1,5 +1,5 @@
 -- A side that is parked was connected before the client closed: that stays so, over one event more, where a flow passes and where a reply leads.
-use Rattle.std.proofs.Common.{◌≡◌, ◌≤◌, ◌+◌, ℕ, Bool, true, false, List, [], ◌∷◌, ◌++◌, drop, length, Option, Some, None, refl, ap, sym, ◌∙◌, subst}
+use Rattle.std.proofs.Common.{◌≡◌, ◌≤◌, ℕ, Bool, true, false, List, [], ◌∷◌, ◌++◌, drop, length, Option, Some, None, refl, ap, sym, ◌∙◌, subst}
 use Rattle.std.specs.Prelude.{◌==◌, ◌||◌}
 use Rattle.std.proofs.lemmas.List.{drop-append-le}
 use Rattle.px_message.specs.declared.flow.Flow.{Flow}
