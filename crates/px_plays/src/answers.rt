@@ -1,6 +1,6 @@
 //! What comes of a row's input, by the first word of its kind.
 use crate::{chunks, filters, flow_files, heads, messages, rules, trees};
-use px_rows::{Cut, RowError};
+use px_rows::{Cut, RowError, Shown};
 use std::alloc::Global;
 
 /// What comes of these bytes in a row of this kind.
@@ -9,13 +9,14 @@ pub(crate) fn answer(
     kind: &str,
     bytes: &[u8],
     cut: Cut,
-) -> Result<String, RowError> {
+    out: &mut Shown,
+) -> Result<(), RowError> {
     let (word, more) = word_of(kind);
     match (word, more) {
-        ("chunks", "") => chunks::answer(alloc, bytes, cut),
-        ("heads", _) => heads::answer(alloc, more, bytes, cut),
-        ("messages", _) => messages::answer(alloc, more, bytes, cut),
-        _ => answer_whole(alloc, word, more, bytes),
+        ("chunks", "") => chunks::answer(alloc, bytes, cut, out),
+        ("heads", _) => heads::answer(alloc, more, bytes, cut, out),
+        ("messages", _) => messages::answer(alloc, more, bytes, cut, out),
+        _ => answer_whole(alloc, word, more, bytes, out),
     }
 }
 
@@ -36,12 +37,18 @@ fn word_of(kind: &str) -> (&str, &str) {
 }
 
 // Of bytes that do not come in pieces.
-fn answer_whole(alloc: Global, word: &str, more: &str, bytes: &[u8]) -> Result<String, RowError> {
+fn answer_whole(
+    alloc: Global,
+    word: &str,
+    more: &str,
+    bytes: &[u8],
+    out: &mut Shown,
+) -> Result<(), RowError> {
     match word {
-        "filters" => filters::answer(alloc, more, bytes),
-        "flow" => flow_files::answer(alloc, more, bytes),
-        "trees" => trees::answer(alloc, bytes),
-        "rules" => rules::answer(alloc, more, bytes),
+        "filters" => filters::answer(alloc, more, bytes, out),
+        "flow" => flow_files::answer(alloc, more, bytes, out),
+        "trees" => trees::answer(alloc, bytes, out),
+        "rules" => rules::answer(alloc, more, bytes, out),
         _ => Err(RowError::Bad),
     }
 }

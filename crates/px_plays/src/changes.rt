@@ -5,7 +5,11 @@ use px_rows::RowError;
 use std::alloc::Global;
 
 /// Changes the request.
-pub fn change_request(alloc: Global, request: &mut Request, changes: &str) -> Result<(), RowError> {
+pub(crate) fn change_request(
+    alloc: Global,
+    request: &mut Request,
+    changes: &str,
+) -> Result<(), RowError> {
     for change in changes.split("; ") {
         let (what, text) = word_of(change);
         change_request_once(alloc, request, what, text)?;
@@ -79,14 +83,24 @@ pub fn change_response(
     changes: &str,
 ) -> Result<Response, RowError> {
     let mut response = response;
+    match change_each(alloc, &mut response, changes) {
+        Ok(()) => Ok(response),
+        Err(error) => {
+            drop(response);
+            Err(error)
+        }
+    }
+}
+
+fn change_each(alloc: Global, response: &mut Response, changes: &str) -> Result<(), RowError> {
     if changes.is_empty() {
-        return Ok(response);
+        return Ok(());
     }
     for change in changes.split("; ") {
         let (what, text) = word_of(change);
-        change_response_once(alloc, &mut response, what, text)?;
+        change_response_once(alloc, response, what, text)?;
     }
-    Ok(response)
+    Ok(())
 }
 
 fn change_response_once(

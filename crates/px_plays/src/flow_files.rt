@@ -4,31 +4,35 @@ use crate::parts::utf8_of;
 use crate::tree_changes::change_tree;
 use px_flowfile::{Entry, FlowReader, Others, ReadFault, write_flow};
 use px_message::Flow;
-use px_rows::{RowError, write_escaped};
+use px_rows::{RowError, Shown};
 use px_text::Bytes;
 use px_tnet::WriteError;
 use std::alloc::Global;
 
 /// Of rows `flow files`, `flow files of FLOW` and `flow texts of FLOW`.
-pub(crate) fn answer(alloc: Global, what: &str, bytes: &[u8]) -> Result<String, RowError> {
+pub(crate) fn answer(
+    alloc: Global,
+    what: &str,
+    bytes: &[u8],
+    out: &mut Shown,
+) -> Result<(), RowError> {
     if what == "files" {
-        return flows_in(alloc, bytes);
+        return show_flows(alloc, bytes, out);
     }
     if let Some(flow) = what.strip_prefix("files of ") {
-        return changed_file(alloc, flow, utf8_of(bytes)?);
+        return changed_file(alloc, flow, utf8_of(bytes)?, out);
     }
     match what.strip_prefix("texts of ") {
-        Some(flow) => flow_text(alloc, flow),
+        Some(flow) => show_text(alloc, flow, out),
         None => Err(RowError::Bad),
     }
 }
 
 // The text of a file with this flow.
-fn flow_text(alloc: Global, flow: &str) -> Result<String, RowError> {
+fn show_text(alloc: Global, flow: &str, out: &mut Shown) -> Result<(), RowError> {
     let text = text_of(alloc, flow)?;
-    let mut out = String::new(alloc);
-    write_escaped(&mut out, text.as_slice())?;
-    Ok(out)
+    out.bytes(text.as_slice());
+    Ok(())
 }
 
 fn text_of(alloc: Global, flow: &str) -> Result<Vec<u8>, RowError> {
@@ -40,72 +44,89 @@ fn text_of(alloc: Global, flow: &str) -> Result<Vec<u8>, RowError> {
 
 // The flow without other pairs.
 fn entry_of(alloc: Global, flow: &str) -> Result<Entry, RowError> {
-    Ok(Entry {
-        flow: flow_of(alloc, flow)?,
-        others: Others::new(alloc),
-    })
+    match flow_of(alloc, flow) {
+        Ok(flow) => Ok(Entry {
+            flow,
+            others: Others::new(alloc),
+        }),
+        Err(error) => Err(error),
+    }
 }
 
 // What is read of a file with this flow whose tree was changed, and whether that is written as it was read; or the fault.
-fn changed_file(alloc: Global, flow: &str, changes: &str) -> Result<String, RowError> {
+fn changed_file(alloc: Global, flow: &str, changes: &str, out: &mut Shown) -> Result<(), RowError> {
     let entry = entry_of(alloc, flow)?;
-    let answer = change_file(alloc, &entry, changes);
+    let answer = change_file(alloc, &entry, changes, out);
     drop(entry);
     answer
 }
 
-fn change_file(alloc: Global, entry: &Entry, changes: &str) -> Result<String, RowError> {
+fn change_file(
+    alloc: Global,
+    entry: &Entry,
+    changes: &str,
+    out: &mut Shown,
+) -> Result<(), RowError> {
     let mut text = write_entry(alloc, entry)?;
     for change in changes.split("; ") {
         text = change_tree(alloc, text.as_slice(), change)?;
     }
-    show_file(alloc, &entry.flow, text.as_slice())
+    show_file(alloc, &entry.flow, text.as_slice(), out)
 }
 
 // The lines of the flows of a file, and the fault where it has one.
-fn flows_in(alloc: Global, bytes: &[u8]) -> Result<String, RowError> {
-    let mut reader = FlowReader::new(alloc, Bytes::copied(alloc, bytes)?);
-    let mut out = String::new(alloc);
-    for _ in 0..bytes.len() {
-        if !show_next(&mut reader, &mut out)? {
-            return Ok(out);
-        }
-    }
-    Ok(out)
-}
-
-// Shows what comes next, and whether that is a flow.
-fn show_next(reader: &mut FlowReader, out: &mut String) -> Result<bool, RowError> {
-    match reader.next() {
-        Ok(Some(entry)) => show_next_flow(out, entry),
-        Ok(None) => Ok(false),
-        Err(fault) => show_fault(out, fault),
-    }
-}
-
-fn show_next_flow(out: &mut String, entry: Entry) -> Result<bool, RowError> {
-    let shown = show_line(out, &entry.flow);
-    drop(entry);
+fn show_flows(alloc: Global, bytes: &[u8], out: &mut Shown) -> Result<(), RowError> {
+    let text = Bytes::copied(alloc, bytes)?;
+    let mut reader = FlowReader::new(alloc, text);
+    let shown = show_all(&mut reader, bytes.len(), out);
+    drop(reader);
     shown
 }
 
-fn show_fault(out: &mut String, fault: ReadFault) -> Result<bool, RowError> {
-    let offset = fault.offset;
-    let cause = fault.cause;
-    write!(out, "at {offset} {cause:?}")?;
-    Ok(false)
+// Shows so many at most.
+fn show_all(reader: &mut FlowReader, most: usize, out: &mut Shown) -> Result<(), RowError> {
+    for _ in 0..most {
+        if !show_next(reader, out)? {
+            return Ok(());
+        }
+    }
+    Ok(())
 }
 
-fn show_line(out: &mut String, flow: &Flow) -> Result<bool, RowError> {
-    let request = flow.request.get();
-    write_escaped(out, request.method.bytes())?;
-    out.push(' ')?;
-    write_escaped(out, request.url()?.as_slice())?;
-    if let Some(response) = &flow.response {
-        let code = response.get().status.code();
-        write!(out, " {code}")?;
+// Shows what comes next, and whether that is a flow.
+fn show_next(reader: &mut FlowReader, out: &mut Shown) -> Result<bool, RowError> {
+    match reader.next() {
+        Ok(Some(entry)) => {
+            let shown = show_line(out, &entry.flow);
+            drop(entry);
+            shown
+        }
+        Ok(None) => Ok(false),
+        Err(fault) => {
+            show_fault(out, fault);
+            Ok(false)
+        }
     }
-    out.push_str(", ")?;
+}
+
+fn show_fault(out: &mut Shown, fault: ReadFault) {
+    out.text("at ");
+    out.number(fault.offset as u64);
+    out.text(" ");
+    out.debug(&fault.cause);
+}
+
+fn show_line(out: &mut Shown, flow: &Flow) -> Result<bool, RowError> {
+    let request = flow.request.get();
+    let url = request.url()?;
+    out.bytes(request.method.bytes());
+    out.text(" ");
+    out.bytes(url.as_slice());
+    if let Some(response) = &flow.response {
+        out.text(" ");
+        out.number(u64::from(response.get().status.code()));
+    }
+    out.text(", ");
     Ok(true)
 }
 
@@ -118,39 +139,55 @@ fn write_entry(alloc: Global, entry: &Entry) -> Result<Vec<u8>, RowError> {
     }
 }
 
-fn show_file(alloc: Global, flow: &Flow, text: &[u8]) -> Result<String, RowError> {
-    let mut reader = FlowReader::new(alloc, Bytes::copied(alloc, text)?);
+fn show_file(alloc: Global, flow: &Flow, text: &[u8], out: &mut Shown) -> Result<(), RowError> {
+    let bytes = Bytes::copied(alloc, text)?;
+    let mut reader = FlowReader::new(alloc, bytes);
+    let shown = show_first(alloc, &mut reader, flow, text, out);
+    drop(reader);
+    shown
+}
+
+fn show_first(
+    alloc: Global,
+    reader: &mut FlowReader,
+    flow: &Flow,
+    text: &[u8],
+    out: &mut Shown,
+) -> Result<(), RowError> {
     match reader.next() {
-        Ok(Some(entry)) => compare(alloc, flow, entry, text),
-        Ok(None) => Ok(String::from_str(alloc, "nothing")?),
-        Err(fault) => show_cause(alloc, fault),
+        Ok(Some(entry)) => {
+            let answer = show_entry(alloc, flow, &entry, text, out);
+            drop(entry);
+            answer
+        }
+        Ok(None) => {
+            out.text("nothing");
+            Ok(())
+        }
+        Err(fault) => {
+            out.debug(&fault.cause);
+            Ok(())
+        }
     }
 }
 
-fn show_cause(alloc: Global, fault: ReadFault) -> Result<String, RowError> {
-    let cause = fault.cause;
-    let mut out = String::new(alloc);
-    write!(out, "{cause:?}")?;
-    Ok(out)
-}
-
-fn compare(alloc: Global, flow: &Flow, entry: Entry, text: &[u8]) -> Result<String, RowError> {
-    let answer = show_entry(alloc, flow, &entry, text);
-    drop(entry);
-    answer
-}
-
-fn show_entry(alloc: Global, flow: &Flow, entry: &Entry, text: &[u8]) -> Result<String, RowError> {
-    let mut out = String::new(alloc);
-    out.push_str(if is_same(&entry.flow, flow) {
+fn show_entry(
+    alloc: Global,
+    flow: &Flow,
+    entry: &Entry,
+    text: &[u8],
+    out: &mut Shown,
+) -> Result<(), RowError> {
+    let written = write_entry(alloc, entry)?;
+    out.text(if is_same(&entry.flow, flow) {
         "loads"
     } else {
         "loads another"
-    })?;
-    if write_entry(alloc, entry)?.as_slice() != text {
-        out.push_str(", written otherwise")?;
+    });
+    if written.as_slice() != text {
+        out.text(", written otherwise");
     }
-    Ok(out)
+    Ok(())
 }
 
 fn is_same(one: &Flow, other: &Flow) -> bool {

@@ -92,9 +92,19 @@ fn change_flow(alloc: Global, flow: &mut Flow, part: &str) -> Result<(), RowErro
     }
 }
 
-fn put_request(alloc: Global, flow: &mut Flow, changes: &str) -> Result<(), RowError> {
+/// Changes the flow's request.
+pub fn put_request(alloc: Global, flow: &mut Flow, changes: &str) -> Result<(), RowError> {
     let mut request = flow.request.get().try_clone()?;
-    change_request(alloc, &mut request, changes)?;
+    match change_request(alloc, &mut request, changes) {
+        Ok(()) => share_request(alloc, flow, request),
+        Err(error) => {
+            drop(request);
+            Err(error)
+        }
+    }
+}
+
+fn share_request(alloc: Global, flow: &mut Flow, request: Request) -> Result<(), RowError> {
     flow.request = Shared::new(alloc, request)?;
     Ok(())
 }

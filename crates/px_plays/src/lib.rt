@@ -21,6 +21,7 @@ mod tables;
 mod tree_changes;
 mod trees;
 
-pub use changes::{change_request, change_response};
+pub use changes::change_response;
+pub use flows::put_request;
 pub use parts::{address_at, status_of};
 pub use tables::play;

@@ -1,6 +1,6 @@
 //! A row of one line, played at its cuts and compared.
 use crate::answers::{answer, is_cut};
-use px_rows::{Cut, Cuts, Row, RowError, Trouble, add_cuts, plain_cuts, report, unescape};
+use px_rows::{Cut, Cuts, Row, RowError, Shown, Trouble, add_cuts, plain_cuts, report, unescape};
 use std::alloc::Global;
 
 /// Plays the row of one line at all of its cuts. Where it differs the answer is what was wanted and what came. The row's line is in trouble where it has
@@ -54,10 +54,25 @@ fn play_cuts(
     cuts: &[Cut],
 ) -> Result<Option<String>, RowError> {
     for cut in cuts {
-        let came = answer(alloc, kind, bytes, *cut)?;
-        if came.as_str() != wanted {
-            return Ok(Some(report(alloc, "", *cut, wanted, came.as_str())?));
+        if let Some(report) = play_cut(alloc, kind, bytes, wanted, *cut)? {
+            return Ok(Some(report));
         }
     }
     Ok(None)
+}
+
+fn play_cut(
+    alloc: Global,
+    kind: &str,
+    bytes: &[u8],
+    wanted: &str,
+    cut: Cut,
+) -> Result<Option<String>, RowError> {
+    let mut out = Shown::new(alloc);
+    answer(alloc, kind, bytes, cut, &mut out)?;
+    let came = out.finish()?;
+    if came.as_str() == wanted {
+        return Ok(None);
+    }
+    Ok(Some(report(alloc, "", cut, wanted, came.as_str())?))
 }

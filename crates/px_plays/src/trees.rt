@@ -1,55 +1,48 @@
 //! Tnetstrings: trees and their texts.
-use px_rows::{RowError, write_escaped};
+use crate::heads::show_rest;
+use px_rows::{RowError, Shown};
 use px_text::Bytes;
 use px_tnet::{Tnet, TnetError, WriteError, read, write};
 use std::alloc::Global;
 
 /// The tree that the text begins with and what stands behind it, or its refusal; and that the tree has the text that was
 /// read.
-pub(crate) fn answer(alloc: Global, bytes: &[u8]) -> Result<String, RowError> {
-    match read(alloc, &Bytes::copied(alloc, bytes)?) {
-        Ok((tree, used)) => show_read(alloc, tree, bytes, used),
-        Err(error) => show_refusal(alloc, error),
+pub(crate) fn answer(alloc: Global, bytes: &[u8], out: &mut Shown) -> Result<(), RowError> {
+    let text = Bytes::copied(alloc, bytes)?;
+    match read(alloc, &text) {
+        Ok((tree, used)) => {
+            let shown = show_front(alloc, out, &tree, bytes, used);
+            drop(tree);
+            shown
+        }
+        Err(error) => show_refusal(out, error),
     }
 }
 
-fn show_refusal(alloc: Global, error: TnetError) -> Result<String, RowError> {
-    let mut out = String::new(alloc);
-    match error {
-        TnetError::NoMemory => return Err(RowError::NoMemory),
-        error => write!(out, "{error:?}")?,
+fn show_refusal(out: &mut Shown, error: TnetError) -> Result<(), RowError> {
+    if let TnetError::NoMemory = error {
+        return Err(RowError::NoMemory);
     }
-    Ok(out)
-}
-
-fn show_read(alloc: Global, tree: Tnet, bytes: &[u8], used: usize) -> Result<String, RowError> {
-    let mut out = String::new(alloc);
-    let shown = show_front(alloc, &mut out, &tree, bytes, used);
-    drop(tree);
-    match shown {
-        Ok(()) => Ok(out),
-        Err(error) => Err(error),
-    }
+    out.debug(&error);
+    Ok(())
 }
 
 fn show_front(
     alloc: Global,
-    out: &mut String,
+    out: &mut Shown,
     tree: &Tnet,
     bytes: &[u8],
     used: usize,
 ) -> Result<(), RowError> {
-    show_tree(out, tree)?;
-    let (Some(front), Some(rest)) = (bytes.get(..used), bytes.get(used..)) else {
+    let Some((front, rest)) = bytes.split_at_checked(used) else {
         return Err(RowError::Bad);
     };
-    if text_of(alloc, tree)?.as_slice() != front {
-        out.push_str(" but written otherwise")?;
+    show_tree(out, tree);
+    let text = text_of(alloc, tree)?;
+    if text.as_slice() != front {
+        out.text(" but written otherwise");
     }
-    if !rest.is_empty() {
-        out.push_str(" + ")?;
-        write_escaped(out, rest)?;
-    }
+    show_rest(out, rest);
     Ok(())
 }
 
@@ -64,39 +57,29 @@ fn text_of(alloc: Global, tree: &Tnet) -> Result<Vec<u8>, RowError> {
 }
 
 // A blob in `'`, a text in `"`, a float behind `^`, and of a list or a dictionary how many items or pairs it has.
-fn show_tree(out: &mut String, tree: &Tnet) -> Result<(), RowError> {
+fn show_tree(out: &mut Shown, tree: &Tnet) {
     match tree {
-        Tnet::Blob(bytes) => show_quoted(out, '\'', bytes.as_slice()),
-        Tnet::Text(bytes) => show_quoted(out, '"', bytes.as_slice()),
-        Tnet::Float(bytes) => show_float(out, bytes.as_slice()),
-        Tnet::List(list) => show_count(out, "list of", list.as_slice().len()),
-        Tnet::Dict(dict) => show_count(out, "dictionary of", dict.as_slice().len()),
-        _ => show_plain(out, tree),
+        Tnet::Blob(bytes) => show_quoted(out, "'", bytes.as_slice()),
+        Tnet::Text(bytes) => show_quoted(out, "\"", bytes.as_slice()),
+        Tnet::Float(bytes) => {
+            out.text("^");
+            out.bytes(bytes.as_slice());
+        }
+        Tnet::List(list) => show_count(out, "list of ", list.as_slice().len()),
+        Tnet::Dict(dict) => show_count(out, "dictionary of ", dict.as_slice().len()),
+        Tnet::Int(number) => out.debug(number),
+        Tnet::Bool(truth) => out.debug(truth),
+        Tnet::Null => out.text("null"),
     }
 }
 
-fn show_plain(out: &mut String, tree: &Tnet) -> Result<(), RowError> {
-    match tree {
-        Tnet::Int(number) => write!(out, "{number}")?,
-        Tnet::Bool(truth) => write!(out, "{truth}")?,
-        _ => out.push_str("null")?,
-    }
-    Ok(())
+fn show_quoted(out: &mut Shown, quote: &str, bytes: &[u8]) {
+    out.text(quote);
+    out.bytes(bytes);
+    out.text(quote);
 }
 
-fn show_quoted(out: &mut String, quote: char, bytes: &[u8]) -> Result<(), RowError> {
-    out.push(quote)?;
-    write_escaped(out, bytes)?;
-    out.push(quote)?;
-    Ok(())
-}
-
-fn show_float(out: &mut String, bytes: &[u8]) -> Result<(), RowError> {
-    out.push('^')?;
-    write_escaped(out, bytes)
-}
-
-fn show_count(out: &mut String, what: &str, count: usize) -> Result<(), RowError> {
-    write!(out, "{what} {count}")?;
-    Ok(())
+fn show_count(out: &mut Shown, what: &str, count: usize) {
+    out.text(what);
+    out.number(count as u64);
 }

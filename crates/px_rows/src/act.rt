@@ -8,7 +8,7 @@ use px_text::Bytes;
 use std::alloc::Global;
 
 /// One line of a diagram.
-#[derive(Debug, Drop)]
+#[derive(Drop)]
 pub enum Act {
     /// Something is heard.
     Heard(Heard),
@@ -30,10 +30,16 @@ pub fn read_act(alloc: Global, line: &str) -> Result<Act, RowError> {
 
 // A number and a colon in front of the line name the conversation.
 fn conversation_of(line: &str) -> Option<(u32, &str)> {
-    let (number, rest) = line.split_once(':')?;
-    match number.parse::<u32>() {
-        Ok(conv) => Some((conv, rest)),
-        Err(_) => None,
+    match line.split_once(':') {
+        Some((number, rest)) => behind(number.parse::<u32>().ok(), rest),
+        None => None,
+    }
+}
+
+fn behind(number: Option<u32>, rest: &str) -> Option<(u32, &str)> {
+    match number {
+        Some(number) => Some((number, rest)),
+        None => None,
     }
 }
 
@@ -43,7 +49,7 @@ fn read_heard(alloc: Global, conv: u32, text: &str) -> Result<Act, RowError> {
         "accept control" => accepted(alloc, conv, Door::Control),
         "end" => Ok(Act::Heard(Heard::End)),
         "C closes" => Ok(closed(conv, Side::Client)),
-        "answer" => Ok(Act::Answer(String::from_str(alloc, "go")?)),
+        "answer" => read_answer(alloc, "go"),
         _ => read_of_client(alloc, conv, text),
     }
 }
@@ -52,12 +58,17 @@ fn closed(conv: u32, side: Side) -> Act {
     Act::Heard(Heard::Closed { conv, side })
 }
 
+fn read_answer(alloc: Global, reply: &str) -> Result<Act, RowError> {
+    let reply = String::from_str(alloc, reply)?;
+    Ok(Act::Answer(reply))
+}
+
 fn read_of_client(alloc: Global, conv: u32, text: &str) -> Result<Act, RowError> {
     if let Some(bytes) = text.strip_prefix("C< ") {
-        return Ok(Act::Piece(conv, Side::Client, unescape(alloc, bytes)?));
+        return read_piece(alloc, conv, Side::Client, bytes);
     }
     if let Some(reply) = text.strip_prefix("answer ") {
-        return Ok(Act::Answer(String::from_str(alloc, reply)?));
+        return read_answer(alloc, reply);
     }
     if is_said(text) {
         return Ok(Act::Said);
@@ -65,45 +76,62 @@ fn read_of_client(alloc: Global, conv: u32, text: &str) -> Result<Act, RowError>
     read_of_server(alloc, conv, text)
 }
 
+fn read_piece(alloc: Global, conv: u32, side: Side, text: &str) -> Result<Act, RowError> {
+    let bytes = unescape(alloc, text)?;
+    Ok(Act::Piece(conv, side, bytes))
+}
+
 fn read_of_server(alloc: Global, conv: u32, text: &str) -> Result<Act, RowError> {
     if let Some(dialled) = text.strip_prefix("D") {
         return read_dialled(conv, dialled);
     }
-    let Some(server) = text.strip_prefix("S") else {
-        return Err(RowError::Bad);
-    };
-    if let Some((number, bytes)) = server.split_once("< ") {
-        let side = Side::Server(read_u32(number)?);
-        return Ok(Act::Piece(conv, side, unescape(alloc, bytes)?));
+    match text.strip_prefix("S") {
+        Some(server) => read_server(alloc, conv, server),
+        None => Err(RowError::Bad),
     }
-    match server.strip_suffix(" closes") {
-        Some(number) => Ok(closed(conv, Side::Server(read_u32(number)?))),
+}
+
+fn read_server(alloc: Global, conv: u32, text: &str) -> Result<Act, RowError> {
+    if let Some((number, bytes)) = text.split_once("< ") {
+        let number = read_u32(number)?;
+        return read_piece(alloc, conv, Side::Server(number), bytes);
+    }
+    match text.strip_suffix(" closes") {
+        Some(number) => {
+            let number = read_u32(number)?;
+            Ok(closed(conv, Side::Server(number)))
+        }
         None => Err(RowError::Bad),
     }
 }
 
 fn read_dialled(conv: u32, text: &str) -> Result<Act, RowError> {
-    let (number, ok) = match text.strip_suffix(" fails") {
-        Some(number) => (number, false),
-        None => (text, true),
-    };
-    Ok(Act::Heard(Heard::Dialled {
-        conv,
-        server: read_u32(number)?,
-        ok,
-    }))
+    match text.strip_suffix(" fails") {
+        Some(number) => dialled(conv, number, false),
+        None => dialled(conv, text, true),
+    }
+}
+
+fn dialled(conv: u32, number: &str, ok: bool) -> Result<Act, RowError> {
+    let server = read_u32(number)?;
+    Ok(Act::Heard(Heard::Dialled { conv, server, ok }))
 }
 
 fn accepted(alloc: Global, conv: u32, door: Door) -> Result<Act, RowError> {
-    let host = match Host::try_new(alloc, Vec::from_slice(alloc, b"127.0.0.1")?) {
-        Ok(host) => host,
-        Err(_) => return Err(RowError::NoMemory),
-    };
+    let host = loopback(alloc)?;
     Ok(Act::Heard(Heard::Accepted {
         conv,
         door,
         peer: Address { host, port: 50000 },
     }))
+}
+
+fn loopback(alloc: Global) -> Result<Host, RowError> {
+    let bytes = Vec::from_slice(alloc, b"127.0.0.1")?;
+    match Host::try_new(alloc, bytes) {
+        Ok(host) => Ok(host),
+        Err(_) => Err(RowError::NoMemory),
+    }
 }
 
 const SAID: [&str; 15] = [
@@ -135,10 +163,14 @@ fn is_said(text: &str) -> bool {
 }
 
 fn is_sent_to_server(text: &str) -> bool {
-    let Some(server) = text.strip_prefix("S") else {
-        return false;
-    };
-    match server.split_once("> ") {
+    match text.strip_prefix("S") {
+        Some(server) => is_number_before(server),
+        None => false,
+    }
+}
+
+fn is_number_before(text: &str) -> bool {
+    match text.split_once("> ") {
         Some((number, _)) => number.parse::<u32>().is_ok(),
         None => false,
     }
@@ -146,9 +178,6 @@ fn is_sent_to_server(text: &str) -> bool {
 
 /// A piece of a side.
 pub fn piece(alloc: Global, conv: u32, side: Side, bytes: &[u8]) -> Result<Heard, RowError> {
-    Ok(Heard::Piece {
-        conv,
-        side,
-        bytes: Bytes::copied(alloc, bytes)?,
-    })
+    let bytes = Bytes::copied(alloc, bytes)?;
+    Ok(Heard::Piece { conv, side, bytes })
 }

@@ -3,7 +3,7 @@ use crate::RowError;
 use std::alloc::Global;
 
 /// How the rows of a file are cut. Each is played whole in any case.
-#[derive(Clone, Copy, Debug, PartialEq, Eq)]
+#[derive(Clone, Copy)]
 pub enum Cuts {
     /// Nowhere.
     Nowhere,
@@ -16,7 +16,7 @@ pub enum Cuts {
 }
 
 /// How a row is played.
-#[derive(Clone, Copy, Debug, PartialEq, Eq)]
+#[derive(Clone, Copy)]
 pub enum Cut {
     /// As it stands.
     Whole,
@@ -28,12 +28,10 @@ pub enum Cut {
 
 /// The cuts that need no piece.
 pub fn plain_cuts(alloc: Global, cuts: Cuts) -> Result<Vec<Cut>, RowError> {
-    let mut all = Vec::new(alloc);
-    all.push(Cut::Whole)?;
-    if cuts != Cuts::Nowhere {
-        all.push(Cut::Bytes)?;
+    match cuts {
+        Cuts::Nowhere => Ok(Vec::from_slice(alloc, &[Cut::Whole])?),
+        _ => Ok(Vec::from_slice(alloc, &[Cut::Whole, Cut::Bytes])?),
     }
-    Ok(all)
 }
 
 /// Adds the cuts of the piece of this number.
@@ -94,14 +92,20 @@ pub fn cut_piece(
 
 fn one_part(alloc: Global, bytes: &[u8]) -> Result<Vec<Vec<u8>>, RowError> {
     let mut parts = Vec::new(alloc);
-    parts.push(Vec::from_slice(alloc, bytes)?)?;
+    add_part(alloc, &mut parts, bytes)?;
     Ok(parts)
+}
+
+fn add_part(alloc: Global, parts: &mut Vec<Vec<u8>>, bytes: &[u8]) -> Result<(), RowError> {
+    let part = Vec::from_slice(alloc, bytes)?;
+    parts.push(part)?;
+    Ok(())
 }
 
 fn each_byte(alloc: Global, bytes: &[u8]) -> Result<Vec<Vec<u8>>, RowError> {
     let mut parts = Vec::new(alloc);
     for byte in bytes {
-        parts.push(Vec::from_slice(alloc, &[*byte])?)?;
+        add_part(alloc, &mut parts, &[*byte])?;
     }
     Ok(parts)
 }
@@ -110,7 +114,7 @@ fn two_parts(alloc: Global, bytes: &[u8], place: usize) -> Result<Vec<Vec<u8>>, 
     match bytes.split_at_checked(place) {
         Some((front, back)) => {
             let mut parts = one_part(alloc, front)?;
-            parts.push(Vec::from_slice(alloc, back)?)?;
+            add_part(alloc, &mut parts, back)?;
             Ok(parts)
         }
         None => one_part(alloc, bytes),

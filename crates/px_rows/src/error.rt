@@ -3,7 +3,7 @@ use px_text::NoMemory;
 use std::alloc::{AllocError, AllocFailed};
 
 /// Why a text is none of a row.
-#[derive(Clone, Copy, Debug, PartialEq, Eq)]
+#[derive(Clone, Copy)]
 pub enum RowError {
     /// It has no form of a row.
     Bad,
@@ -30,7 +30,7 @@ impl<T: Drop> From<AllocFailed<T>> for RowError {
 }
 
 /// Why the rows of a file are not played.
-#[derive(Clone, Copy, Debug, PartialEq, Eq)]
+#[derive(Clone, Copy)]
 pub enum Trouble {
     /// The line of this number, counted from 1, has no form of a row.
     Line(usize),

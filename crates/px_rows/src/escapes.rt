@@ -1,5 +1,5 @@
-//! Bytes written as text.
-ghost use Rattle.std.specs.Prelude.{◌<◌, length, IfSome};
+//! Texts in which escapes stand for bytes.
+ghost use Rattle.std.specs.Prelude.{◌≡◌, ◌<◌, ◌≤◌, length, IfSome};
 
 use crate::RowError;
 use std::alloc::Global;
@@ -23,17 +23,49 @@ fn next_byte(text: &[u8]) -> Option<(u8, &[u8])>
     ensures { IfSome result (λ r. length r.1.now < length text.now) }
 {
     match text {
-        [b'\\', b'r', after @ ..] => Some((b'\r', after)),
-        [b'\\', b'n', after @ ..] => Some((b'\n', after)),
-        [b'\\', b't', after @ ..] => Some((b'\t', after)),
-        [b'\\', b'\\', after @ ..] => Some((b'\\', after)),
-        [b'\\', b'x', high, low, after @ ..] => match (hex(*high), hex(*low)) {
-            (Some(high), Some(low)) => Some((high.wrapping_mul(16).wrapping_add(low), after)),
-            _ => None,
-        },
-        [b'\\', ..] => None,
+        [b'\\', b'x', after @ ..] => hex_byte(after),
+        [b'\\', letter, after @ ..] => behind(escaped(*letter), after),
+        [b'\\'] => None,
         [first, after @ ..] => Some((*first, after)),
         [] => None,
+    }
+}
+
+// The byte, where there is one, and the rest.
+fn behind(byte: Option<u8>, rest: &[u8]) -> Option<(u8, &[u8])>
+    ensures { IfSome result (λ r. r.1.now ≡ rest.now) }
+{
+    match byte {
+        Some(byte) => Some((byte, rest)),
+        None => None,
+    }
+}
+
+// The byte that the letter stands for behind a backslash.
+fn escaped(letter: u8) -> Option<u8> {
+    match letter {
+        b'r' => Some(b'\r'),
+        b'n' => Some(b'\n'),
+        b't' => Some(b'\t'),
+        b'\\' => Some(b'\\'),
+        _ => None,
+    }
+}
+
+// The byte of the two digits at the front of the text, and the rest.
+fn hex_byte(text: &[u8]) -> Option<(u8, &[u8])>
+    ensures { IfSome result (λ r. length r.1.now ≤ length text.now) }
+{
+    match text {
+        [high, low, after @ ..] => behind(joined(hex(*high), hex(*low)), after),
+        _ => None,
+    }
+}
+
+fn joined(high: Option<u8>, low: Option<u8>) -> Option<u8> {
+    match (high, low) {
+        (Some(high), Some(low)) => Some(high.wrapping_mul(16).wrapping_add(low)),
+        _ => None,
     }
 }
 
@@ -44,19 +76,4 @@ fn hex(digit: u8) -> Option<u8> {
         b'a'..=b'f' => Some(digit - b'a' + 10),
         _ => None,
     }
-}
-
-/// Appends the bytes as such a text.
-pub fn write_escaped(out: &mut String, bytes: &[u8]) -> Result<(), RowError> {
-    for byte in bytes {
-        match *byte {
-            b'\r' => out.push_str("\\r")?,
-            b'\n' => out.push_str("\\n")?,
-            b'\t' => out.push_str("\\t")?,
-            b'\\' => out.push_str("\\\\")?,
-            b' '..=b'~' => out.push(char::from(*byte))?,
-            other => write!(out, "\\x{other:02X}")?,
-        }
-    }
-    Ok(())
 }

@@ -15,13 +15,18 @@ mod escapes;
 mod reports;
 mod sheet;
 mod show;
+mod shown;
 mod text;
 
 pub use act::{Act, piece, read_act};
 pub use cuts::{Cut, Cuts, add_cuts, cut_piece, plain_cuts};
 pub use error::{RowError, Trouble};
-pub use escapes::{unescape, write_escaped};
+pub use escapes::unescape;
 pub use reports::report;
 pub use sheet::{Line, Row, read_sheet};
-pub use show::{Peer, end_line, show_address, show_close, show_dial, show_said, show_send};
+pub use show::{
+    Peer, end_line, show_address, show_close, show_conversation, show_dial, show_peer, show_said,
+    show_send,
+};
+pub use shown::Shown;
 pub use text::read_u32;

@@ -1,5 +1,5 @@
 //! What is shown of a row that differs.
-use crate::{Cut, RowError};
+use crate::{Cut, RowError, Shown};
 use std::alloc::Global;
 
 /// How the row was played, what was wanted, and what came: at this cut, and at the hook of this name, if any.
@@ -10,45 +10,52 @@ pub fn report(
     wanted: &str,
     came: &str,
 ) -> Result<String, RowError> {
-    let mut out = String::new(alloc);
-    show_cut(&mut out, cut)?;
+    let mut out = Shown::new(alloc);
+    show_cut(&mut out, cut);
     if !at.is_empty() {
-        write!(out, ", at {at}")?;
+        out.text(", at ");
+        out.text(at);
     }
-    out.push_str("\nwanted:\n")?;
-    push_indented(&mut out, wanted)?;
-    out.push_str("came:\n")?;
-    push_indented(&mut out, came)?;
-    Ok(out)
+    out.text("\nwanted:\n");
+    show_indented(&mut out, wanted);
+    out.text("came:\n");
+    show_indented(&mut out, came);
+    out.finish()
 }
 
-fn show_cut(out: &mut String, cut: Cut) -> Result<(), RowError> {
+fn show_cut(out: &mut Shown, cut: Cut) {
     match cut {
-        Cut::Whole => out.push_str("played whole")?,
-        Cut::Bytes => out.push_str("played byte by byte")?,
-        Cut::At(line, place) => write!(out, "played with piece {line} cut at {place}")?,
+        Cut::Whole => out.text("played whole"),
+        Cut::Bytes => out.text("played byte by byte"),
+        Cut::At(line, place) => {
+            out.text("played with piece ");
+            out.number(line as u64);
+            out.text(" cut at ");
+            out.number(place as u64);
+        }
     }
-    Ok(())
 }
 
-fn push_indented(out: &mut String, text: &str) -> Result<(), RowError> {
+fn show_indented(out: &mut Shown, text: &str) {
     for line in text.lines() {
-        out.push_str("  ")?;
-        push_shortened(out, line)?;
-        out.push('\n')?;
+        out.text("  ");
+        show_shortened(out, line);
+        out.text("\n");
     }
-    Ok(())
 }
 
 // The line. Where it is very long, its two ends.
-fn push_shortened(out: &mut String, line: &str) -> Result<(), RowError> {
+fn show_shortened(out: &mut Shown, line: &str) {
     let len = line.len();
     let ends = (line.get(..500), line.get(len.saturating_sub(500)..));
     match ends {
         (Some(front), Some(back)) if len > 2000 => {
-            write!(out, "{front} .. of {len} bytes .. {back}")?;
+            out.text(front);
+            out.text(" .. of ");
+            out.number(len as u64);
+            out.text(" bytes .. ");
+            out.text(back);
         }
-        _ => out.push_str(line)?,
+        _ => out.text(line),
     }
-    Ok(())
 }

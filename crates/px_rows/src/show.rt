@@ -1,6 +1,5 @@
 //! What was said, as lines.
-use crate::RowError;
-use crate::escapes::write_escaped;
+use crate::Shown;
 use px_event::{Said, Side};
 use px_message::Address;
 
@@ -13,100 +12,88 @@ pub struct Peer {
 
 /// Shows one thing said. Sends to one side that follow each other are one line: the answer is the peer to which bytes are
 /// being sent, whose line is not ended yet, and `sending` is what the answer was before.
-pub fn show_said(
-    out: &mut String,
-    sending: Option<Peer>,
-    conv: u32,
-    said: &Said,
-) -> Result<Option<Peer>, RowError> {
+pub fn show_said(out: &mut Shown, sending: Option<Peer>, conv: u32, said: &Said) -> Option<Peer> {
     match said {
         Said::Send { side, bytes } => {
             let peer = Peer { conv, side: *side };
             show_send(out, sending, peer, bytes.as_slice())
         }
         Said::Close { side } => {
-            end_line(out, sending)?;
-            show_close(out, Peer { conv, side: *side })
+            end_line(out, sending);
+            show_close(out, Peer { conv, side: *side });
+            None
         }
         Said::Dial { server, address } => {
-            end_line(out, sending)?;
-            show_dial(out, conv, *server, address)
+            end_line(out, sending);
+            show_dial(out, conv, *server, address);
+            None
         }
     }
 }
 
-/// Shows bytes that are sent.
-pub fn show_send(
-    out: &mut String,
-    sending: Option<Peer>,
-    peer: Peer,
-    bytes: &[u8],
-) -> Result<Option<Peer>, RowError> {
+/// Shows bytes that are sent. The answer is as that of `show_said`.
+pub fn show_send(out: &mut Shown, sending: Option<Peer>, peer: Peer, bytes: &[u8]) -> Option<Peer> {
     if sending != Some(peer) {
-        end_line(out, sending)?;
-        show_peer(out, peer)?;
-        out.push_str("> ")?;
+        end_line(out, sending);
+        show_peer(out, peer);
+        out.text("> ");
     }
-    write_escaped(out, bytes)?;
-    Ok(Some(peer))
+    out.bytes(bytes);
+    Some(peer)
 }
 
 /// Ends the line of a send.
-pub fn end_line(out: &mut String, sending: Option<Peer>) -> Result<(), RowError> {
+pub fn end_line(out: &mut Shown, sending: Option<Peer>) {
     if sending.is_some() {
-        out.push('\n')?;
+        out.text("\n");
     }
-    Ok(())
 }
 
 /// Shows a close.
-pub fn show_close(out: &mut String, peer: Peer) -> Result<Option<Peer>, RowError> {
-    show_conversation(out, peer.conv)?;
-    out.push_str("close ")?;
-    show_side(out, peer.side)?;
-    out.push('\n')?;
-    Ok(None)
+pub fn show_close(out: &mut Shown, peer: Peer) {
+    show_conversation(out, peer.conv);
+    out.text("close ");
+    show_side(out, peer.side);
+    out.text("\n");
 }
 
 /// Shows a dial.
-pub fn show_dial(
-    out: &mut String,
-    conv: u32,
-    server: u32,
-    address: &Address,
-) -> Result<Option<Peer>, RowError> {
-    show_conversation(out, conv)?;
-    write!(out, "dial S{server} ")?;
-    show_address(out, address)?;
-    out.push('\n')?;
-    Ok(None)
+pub fn show_dial(out: &mut Shown, conv: u32, server: u32, address: &Address) {
+    show_conversation(out, conv);
+    out.text("dial S");
+    out.number(u64::from(server));
+    out.text(" ");
+    show_address(out, address);
+    out.text("\n");
 }
 
 /// Shows an address, as `h:80`.
-pub fn show_address(out: &mut String, address: &Address) -> Result<(), RowError> {
-    write_escaped(out, address.host.bytes())?;
-    let port = address.port;
-    write!(out, ":{port}")?;
-    Ok(())
+pub fn show_address(out: &mut Shown, address: &Address) {
+    out.bytes(address.host.bytes());
+    out.text(":");
+    out.number(u64::from(address.port));
 }
 
-fn show_peer(out: &mut String, peer: Peer) -> Result<(), RowError> {
-    show_conversation(out, peer.conv)?;
-    show_side(out, peer.side)
+/// Shows a side of a conversation, as `S0`, or as `2:C` where the conversation is not 0.
+pub fn show_peer(out: &mut Shown, peer: Peer) {
+    show_conversation(out, peer.conv);
+    show_side(out, peer.side);
 }
 
-// A number and a colon, but for conversation 0.
-fn show_conversation(out: &mut String, conv: u32) -> Result<(), RowError> {
+/// Shows a number and a colon, but for conversation 0.
+pub fn show_conversation(out: &mut Shown, conv: u32) {
     if conv != 0 {
-        write!(out, "{conv}:")?;
+        out.number(u64::from(conv));
+        out.text(":");
     }
-    Ok(())
 }
 
-fn show_side(out: &mut String, side: Side) -> Result<(), RowError> {
+fn show_side(out: &mut Shown, side: Side) {
     match side {
-        Side::Client => out.push('C')?,
-        Side::Server(server) => write!(out, "S{server}")?,
+        Side::Client => out.text("C"),
+        Side::Server(server) => {
+            out.text("S");
+            out.number(u64::from(server));
+        }
     }
-    Ok(())
 }

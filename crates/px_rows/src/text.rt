@@ -1,34 +1,35 @@
 //! Texts in which others stand many times, and numbers.
-use crate::RowError;
+use crate::{RowError, Shown};
 use std::alloc::Global;
 
 /// The text so often.
 pub(crate) fn repeat(alloc: Global, unit: &str, count: usize) -> Result<String, RowError> {
-    let mut out = String::new(alloc);
+    let mut out = Shown::new(alloc);
     for _ in 0..count {
-        out.push_str(unit)?;
+        out.text(unit);
     }
-    Ok(out)
+    out.finish()
 }
 
 /// The text with another one in each of these places.
 pub(crate) fn fill(alloc: Global, text: &str, place: &str, unit: &str) -> Result<String, RowError> {
-    let mut filled = String::new(alloc);
+    let mut filled = Shown::new(alloc);
     let mut first = true;
     for part in text.split(place) {
         if !first {
-            filled.push_str(unit)?;
+            filled.text(unit);
         }
         first = false;
-        filled.push_str(part)?;
+        filled.text(part);
     }
-    Ok(filled)
+    filled.finish()
 }
 
 /// The text with the number in each place `{}`.
 pub(crate) fn fill_number(alloc: Global, text: &str, number: usize) -> Result<String, RowError> {
-    let mut unit = String::new(alloc);
-    write!(unit, "{number}")?;
+    let mut unit = Shown::new(alloc);
+    unit.number(number as u64);
+    let unit = unit.finish()?;
     fill(alloc, text, "{}", unit.as_str())
 }
 
