@@ -1,21 +1,29 @@
 //! Files in memory.
-use crate::parts::{
-    begin_answer, halves, push_bytes, push_count, push_numbers, push_word, word_of,
-};
+use crate::parts::{begin_answer, halves, push_numbers, show_bytes, word_of};
 use px_outside::{FileCall, FileError, Files, MemFiles};
-use px_rows::{RowError, read_u32, unescape, write_escaped};
+use px_rows::{RowError, Shown, read_u32, unescape};
 use std::alloc::Global;
 
 /// What the calls of files answer.
-pub(crate) fn answer(alloc: Global, input: &str) -> Result<String, RowError> {
+pub(crate) fn answer(alloc: Global, input: &str, out: &mut Shown) -> Result<(), RowError> {
     let (given, calls) = halves(input);
     let mut files = new_files(alloc, given)?;
-    let mut out = String::new(alloc);
+    let answer = play_calls(alloc, &mut files, calls, out);
+    drop(files);
+    answer
+}
+
+fn play_calls(
+    alloc: Global,
+    files: &mut MemFiles,
+    calls: &str,
+    out: &mut Shown,
+) -> Result<(), RowError> {
     for call in calls.split("; ") {
-        begin_answer(&mut out)?;
-        play_call(alloc, &mut files, call, &mut out)?;
+        begin_answer(out);
+        play_call(alloc, files, call, out)?;
     }
-    Ok(out)
+    Ok(())
 }
 
 fn new_files(alloc: Global, given: &str) -> Result<MemFiles, RowError> {
@@ -52,21 +60,27 @@ fn play_call(
     alloc: Global,
     files: &mut MemFiles,
     call: &str,
-    out: &mut String,
+    out: &mut Shown,
 ) -> Result<(), RowError> {
     match word_of(call) {
         ("read", path) => read(files, path, out),
         ("append", rest) => append(alloc, files, rest, out),
-        ("calls", "") => push_count(out, files.calls().len()),
+        ("calls", "") => {
+            out.number(files.calls().len() as u64);
+            Ok(())
+        }
         ("call", number) => show_call(out, files.calls(), number),
         _ => Err(RowError::Bad),
     }
 }
 
-fn read<F: Files>(files: &mut F, path: &str, out: &mut String) -> Result<(), RowError> {
+fn read<F: Files>(files: &mut F, path: &str, out: &mut Shown) -> Result<(), RowError> {
     match files.read(path) {
-        Ok(bytes) => push_bytes(out, &bytes),
-        Err(error) => push_error(out, error),
+        Ok(bytes) => {
+            show_bytes(out, &bytes);
+            Ok(())
+        }
+        Err(error) => show_error(out, error),
     }
 }
 
@@ -74,39 +88,51 @@ fn append<F: Files>(
     alloc: Global,
     files: &mut F,
     text: &str,
-    out: &mut String,
+    out: &mut Shown,
 ) -> Result<(), RowError> {
     let (path, text) = word_of(text);
     let bytes = unescape(alloc, text)?;
     match files.append(path, &bytes) {
-        Ok(()) => push_word(out, "ok"),
-        Err(error) => push_error(out, error),
+        Ok(()) => {
+            out.text("ok");
+            Ok(())
+        }
+        Err(error) => show_error(out, error),
     }
 }
 
-fn push_error(out: &mut String, error: FileError) -> Result<(), RowError> {
+fn show_error(out: &mut Shown, error: FileError) -> Result<(), RowError> {
     match error {
-        FileError::Absent => push_word(out, "absent"),
-        FileError::Failed => push_word(out, "failed"),
-        FileError::NoMemory => Err(RowError::NoMemory),
+        FileError::Absent => out.text("absent"),
+        FileError::Failed => out.text("failed"),
+        FileError::NoMemory => return Err(RowError::NoMemory),
     }
+    Ok(())
 }
 
 // The call of this number, counted from 0, as it is listed.
-fn show_call(out: &mut String, calls: &[FileCall], number: &str) -> Result<(), RowError> {
-    match calls.get(read_u32(number)? as usize) {
-        Some(FileCall::Read { path, .. }) => show_path(out, "reads ", path.as_slice()),
-        Some(FileCall::Missed { path }) => show_path(out, "misses ", path.as_slice()),
-        Some(FileCall::ReadFailed { path }) => show_path(out, "cannot read ", path.as_slice()),
-        Some(FileCall::Appended { path, .. }) => show_path(out, "appends to ", path.as_slice()),
-        Some(FileCall::AppendFailed { path }) => {
-            show_path(out, "cannot append to ", path.as_slice())
+fn show_call(out: &mut Shown, calls: &[FileCall], number: &str) -> Result<(), RowError> {
+    let number = read_u32(number)?;
+    match calls.get(number as usize) {
+        Some(call) => {
+            show_listed(out, call);
+            Ok(())
         }
         None => Err(RowError::Bad),
     }
 }
 
-fn show_path(out: &mut String, front: &str, path: &[u8]) -> Result<(), RowError> {
-    out.push_str(front)?;
-    write_escaped(out, path)
+fn show_listed(out: &mut Shown, call: &FileCall) {
+    match call {
+        FileCall::Read { path, .. } => show_path(out, "reads ", path.as_slice()),
+        FileCall::Missed { path } => show_path(out, "misses ", path.as_slice()),
+        FileCall::ReadFailed { path } => show_path(out, "cannot read ", path.as_slice()),
+        FileCall::Appended { path, .. } => show_path(out, "appends to ", path.as_slice()),
+        FileCall::AppendFailed { path } => show_path(out, "cannot append to ", path.as_slice()),
+    }
+}
+
+fn show_path(out: &mut Shown, front: &str, path: &[u8]) {
+    out.text(front);
+    out.bytes(path);
 }

@@ -1,8 +1,8 @@
 //! Calls that each network has: what is heard, and what is said.
-use crate::parts::{address, push_bytes, push_word};
+use crate::parts::address;
 use px_event::{Heard, Said, Side};
 use px_outside::{Net, NetError};
-use px_rows::{RowError, read_u32, unescape, write_escaped};
+use px_rows::{Peer, RowError, Shown, read_u32, show_conversation, show_peer, unescape};
 use px_text::Bytes;
 use std::alloc::Global;
 
@@ -11,7 +11,7 @@ pub(crate) fn play_call<N: Net>(
     alloc: Global,
     net: &mut N,
     call: &str,
-    out: &mut String,
+    out: &mut Shown,
 ) -> Result<(), RowError> {
     if call == "next" {
         return next(net, out);
@@ -19,20 +19,30 @@ pub(crate) fn play_call<N: Net>(
     let (conv, line) = conversation_of(call);
     let said = read_said(alloc, line)?;
     net.say(conv, said)?;
-    push_word(out, "ok")
+    out.text("ok");
+    Ok(())
 }
 
-fn next<N: Net>(net: &mut N, out: &mut String) -> Result<(), RowError> {
+fn next<N: Net>(net: &mut N, out: &mut Shown) -> Result<(), RowError> {
     match net.next() {
-        Ok((moment, heard)) => show_heard(out, moment, &heard),
-        Err(error) => push_fault(out, error),
+        Ok((moment, heard)) => {
+            out.number(moment);
+            out.text(" ");
+            show_heard(out, &heard);
+            drop(heard);
+            Ok(())
+        }
+        Err(error) => show_fault(out, error),
     }
 }
 
 /// Answers that the network failed.
-pub(crate) fn push_fault(out: &mut String, error: NetError) -> Result<(), RowError> {
+pub(crate) fn show_fault(out: &mut Shown, error: NetError) -> Result<(), RowError> {
     match error {
-        NetError::Fault => push_word(out, "failed"),
+        NetError::Fault => {
+            out.text("failed");
+            Ok(())
+        }
         NetError::NoMemory => Err(RowError::NoMemory),
     }
 }
@@ -79,52 +89,35 @@ fn send(alloc: Global, side: Side, text: &str) -> Result<Said, RowError> {
     Ok(Said::Send { side, bytes })
 }
 
-// What was heard, behind its moment.
-fn show_heard(out: &mut String, moment: u64, heard: &Heard) -> Result<(), RowError> {
-    write!(out, "{moment} ")?;
+fn show_heard(out: &mut Shown, heard: &Heard) {
     match heard {
-        Heard::Accepted { conv, .. } => show_accepted(out, *conv),
+        Heard::Accepted { conv, .. } => {
+            show_conversation(out, *conv);
+            out.text("accept");
+        }
         Heard::Piece { conv, side, bytes } => show_piece(out, *conv, *side, bytes.as_slice()),
         Heard::Closed { conv, side } => show_closed(out, *conv, *side),
         Heard::Dialled { conv, server, ok } => show_dialled(out, *conv, *server, *ok),
-        Heard::End => push_word(out, "end"),
+        Heard::End => out.text("end"),
     }
 }
 
-fn show_accepted(out: &mut String, conv: u32) -> Result<(), RowError> {
-    show_conversation(out, conv)?;
-    push_word(out, "accept")
+fn show_piece(out: &mut Shown, conv: u32, side: Side, bytes: &[u8]) {
+    show_peer(out, Peer { conv, side });
+    out.text("< ");
+    out.bytes(bytes);
 }
 
-fn show_piece(out: &mut String, conv: u32, side: Side, bytes: &[u8]) -> Result<(), RowError> {
-    show_side(out, conv, side)?;
-    out.push_str("< ")?;
-    write_escaped(out, bytes)
+fn show_closed(out: &mut Shown, conv: u32, side: Side) {
+    show_peer(out, Peer { conv, side });
+    out.text(" closes");
 }
 
-fn show_closed(out: &mut String, conv: u32, side: Side) -> Result<(), RowError> {
-    show_side(out, conv, side)?;
-    push_word(out, " closes")
-}
-
-fn show_dialled(out: &mut String, conv: u32, server: u32, ok: bool) -> Result<(), RowError> {
-    show_conversation(out, conv)?;
-    write!(out, "D{server}")?;
-    push_word(out, if ok { "" } else { " fails" })
-}
-
-fn show_conversation(out: &mut String, conv: u32) -> Result<(), RowError> {
-    if conv != 0 {
-        write!(out, "{conv}:")?;
+fn show_dialled(out: &mut Shown, conv: u32, server: u32, ok: bool) {
+    show_conversation(out, conv);
+    out.text("D");
+    out.number(u64::from(server));
+    if !ok {
+        out.text(" fails");
     }
-    Ok(())
-}
-
-fn show_side(out: &mut String, conv: u32, side: Side) -> Result<(), RowError> {
-    show_conversation(out, conv)?;
-    match side {
-        Side::Client => out.push('C')?,
-        Side::Server(server) => write!(out, "S{server}")?,
-    }
-    Ok(())
 }

@@ -1,6 +1,6 @@
 //! What inputs and answers are made of.
 use px_message::{Address, Host};
-use px_rows::{RowError, read_u32, write_escaped};
+use px_rows::{RowError, Shown, read_u32};
 use std::alloc::Global;
 
 /// What is there before the calls, up to ` | `, where there is such a part; and the calls.
@@ -36,29 +36,15 @@ pub(crate) fn address(alloc: Global) -> Result<Address, RowError> {
 }
 
 /// Begins the answer of a further call.
-pub(crate) fn begin_answer(out: &mut String) -> Result<(), RowError> {
+pub(crate) fn begin_answer(out: &mut Shown) {
     if !out.is_empty() {
-        out.push_str("; ")?;
+        out.text("; ");
     }
-    Ok(())
-}
-
-/// Answers with a word.
-pub(crate) fn push_word(out: &mut String, word: &str) -> Result<(), RowError> {
-    out.push_str(word)?;
-    Ok(())
-}
-
-/// Answers with a number.
-pub(crate) fn push_count(out: &mut String, count: usize) -> Result<(), RowError> {
-    write!(out, "{count}")?;
-    Ok(())
 }
 
 /// Answers with bytes.
-pub(crate) fn push_bytes(out: &mut String, bytes: &[u8]) -> Result<(), RowError> {
-    out.push('<')?;
-    write_escaped(out, bytes)?;
-    out.push('>')?;
-    Ok(())
+pub(crate) fn show_bytes(out: &mut Shown, bytes: &[u8]) {
+    out.text("<");
+    out.bytes(bytes);
+    out.text(">");
 }

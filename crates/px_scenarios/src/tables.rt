@@ -1,6 +1,6 @@
 //! A row of one line, played and compared.
 use crate::{files, networks, options, sinks, wires};
-use px_rows::{Cut, Row, RowError, Trouble, report};
+use px_rows::{Cut, Row, RowError, Shown, Trouble, report};
 use std::alloc::Global;
 
 /// Plays the row. Where it differs the answer is what was wanted and what came. The row's line is in trouble where it has no form of a row of its kind,
@@ -28,7 +28,9 @@ fn compare(
     input: &str,
     wanted: &str,
 ) -> Result<Option<String>, RowError> {
-    let came = answer(alloc, kind, input)?;
+    let mut out = Shown::new(alloc);
+    answer(alloc, kind, input, &mut out)?;
+    let came = out.finish()?;
     if came.as_str() == wanted {
         return Ok(None);
     }
@@ -36,14 +38,14 @@ fn compare(
 }
 
 // What comes of the input of a row of this kind.
-fn answer(alloc: Global, kind: &str, input: &str) -> Result<String, RowError> {
+fn answer(alloc: Global, kind: &str, input: &str, out: &mut Shown) -> Result<(), RowError> {
     match kind {
-        "sinks" => sinks::answer(alloc, input),
-        "files" => files::answer(alloc, input),
-        "networks" => networks::answer(alloc, input),
-        "wires" => wires::answer(alloc, input),
-        "options" => options::answer(alloc, input, false),
-        "options in full" => options::answer(alloc, input, true),
+        "sinks" => sinks::answer(alloc, input, out),
+        "files" => files::answer(alloc, input, out),
+        "networks" => networks::answer(alloc, input, out),
+        "wires" => wires::answer(alloc, input, out),
+        "options" => options::answer(alloc, input, false, out),
+        "options in full" => options::answer(alloc, input, true, out),
         _ => Err(RowError::Bad),
     }
 }

@@ -1,36 +1,63 @@
 //! Lines over a wire in memory.
 use crate::net_calls;
-use crate::parts::{address, begin_answer, halves, push_bytes, word_of};
+use crate::parts::{address, begin_answer, halves, show_bytes, word_of};
 use px_event::Door;
-use px_rows::{RowError, read_u32, unescape};
+use px_rows::{RowError, Shown, read_u32, unescape};
 use px_wire::{Lines, MemWire, Ready};
 use std::alloc::Global;
 
 /// What the calls of lines over a wire answer.
-pub(crate) fn answer(alloc: Global, input: &str) -> Result<String, RowError> {
+pub(crate) fn answer(alloc: Global, input: &str, out: &mut Shown) -> Result<(), RowError> {
     let (given, calls) = halves(input);
     let mut lines = new_lines(alloc, given)?;
-    let mut out = String::new(alloc);
+    let answer = play_calls(alloc, &mut lines, calls, out);
+    drop(lines);
+    answer
+}
+
+fn play_calls(
+    alloc: Global,
+    lines: &mut Lines<MemWire>,
+    calls: &str,
+    out: &mut Shown,
+) -> Result<(), RowError> {
     for call in calls.split("; ") {
-        begin_answer(&mut out)?;
-        play_call(alloc, &mut lines, call, &mut out)?;
+        begin_answer(out);
+        play_call(alloc, lines, call, out)?;
     }
-    Ok(out)
+    Ok(())
 }
 
 fn new_lines(alloc: Global, given: &str) -> Result<Lines<MemWire>, RowError> {
     let mut script = Vec::new(alloc);
     let mut takes = Vec::new(alloc);
     let mut gives = Vec::new(alloc);
-    for part in given.split("; ") {
-        match word_of(part) {
-            ("takes", numbers) => push_takes(numbers, &mut takes)?,
-            ("gives", text) => gives.push(unescape(alloc, text)?)?,
-            (moment, told) => push_told(alloc, moment, told, &mut script)?,
-        }
-    }
+    read_parts(alloc, given, &mut script, &mut takes, &mut gives)?;
     let wire = MemWire::new(alloc, script, takes, gives);
     Ok(Lines::new(alloc, wire))
+}
+
+fn read_parts(
+    alloc: Global,
+    given: &str,
+    script: &mut Vec<(u64, Ready)>,
+    takes: &mut Vec<usize>,
+    gives: &mut Vec<Vec<u8>>,
+) -> Result<(), RowError> {
+    for part in given.split("; ") {
+        match word_of(part) {
+            ("takes", numbers) => push_takes(numbers, takes)?,
+            ("gives", text) => push_given(alloc, text, gives)?,
+            (moment, told) => push_told(alloc, moment, told, script)?,
+        }
+    }
+    Ok(())
+}
+
+fn push_given(alloc: Global, text: &str, gives: &mut Vec<Vec<u8>>) -> Result<(), RowError> {
+    let bytes = unescape(alloc, text)?;
+    gives.push(bytes)?;
+    Ok(())
 }
 
 fn push_takes(numbers: &str, takes: &mut Vec<usize>) -> Result<(), RowError> {
@@ -47,7 +74,8 @@ fn push_told(
     script: &mut Vec<(u64, Ready)>,
 ) -> Result<(), RowError> {
     let moment = u64::from(read_u32(moment)?);
-    script.push((moment, ready_of(alloc, told)?))?;
+    let ready = ready_of(alloc, told)?;
+    script.push((moment, ready))?;
     Ok(())
 }
 
@@ -78,7 +106,7 @@ fn play_call(
     alloc: Global,
     lines: &mut Lines<MemWire>,
     call: &str,
-    out: &mut String,
+    out: &mut Shown,
 ) -> Result<(), RowError> {
     match word_of(call) {
         ("taken", slot) => show_taken(out, lines.wire(), slot),
@@ -87,13 +115,16 @@ fn play_call(
     }
 }
 
-fn show_taken(out: &mut String, wire: &MemWire, slot: &str) -> Result<(), RowError> {
-    let bytes = wire.taken(read_u32(slot)?)?;
-    push_bytes(out, &bytes)
+fn show_taken(out: &mut Shown, wire: &MemWire, slot: &str) -> Result<(), RowError> {
+    let slot = read_u32(slot)?;
+    let bytes = wire.taken(slot)?;
+    show_bytes(out, &bytes);
+    Ok(())
 }
 
-fn flush(out: &mut String, lines: &mut Lines<MemWire>, slot: &str) -> Result<(), RowError> {
-    let flushed = lines.flush(read_u32(slot)?);
-    write!(out, "{flushed:?}")?;
+fn flush(out: &mut Shown, lines: &mut Lines<MemWire>, slot: &str) -> Result<(), RowError> {
+    let slot = read_u32(slot)?;
+    let flushed = lines.flush(slot);
+    out.debug(&flushed);
     Ok(())
 }
