@@ -3,42 +3,44 @@
 //! With words it plays the files of these names, else all files `*.rows` of the folder that it runs in. It prints a line
 //! for each file and each row that differs, whole, and fails where there is no file, where a row differs and where a line
 //! has no form of a row. docs/rows.md has the notation.
+//!
+//! With `measure` as its first word it plays nothing: it does what the other words ask, and prints a line that tells it, so that
+//! what the core costs can be taken from outside. docs/measured.md has the words. A file of that name is `./measure`.
 #![tactic(auto)]
 
 mod conversation;
-mod diagram;
-mod outside;
+mod measure;
 mod play;
-mod replies;
 mod run;
-mod told;
 
+use measure::measure_by;
 use play::play_row;
 use px_rows::{Row, Trouble, read_sheet};
 use std::alloc::Global;
 use std::process::ExitCode;
 use std::{env, fs, io};
 
+// What may stand behind the word `measure`.
+const MEASURE_FORMS: &str =
+    "rows measure whole|bytes FIELDS TIMES, [conversation] counted|chunked SIZE PIECES, pipelined COUNT, or clients COUNT";
+
 /// How a file was played.
-#[derive(Clone, Copy, Debug, PartialEq, Eq)]
+#[derive(Clone, Copy)]
 enum Verdict {
     Same,
     Differs,
     NoMemory,
 }
 
-// The files that the words name, and without words those of the folder, sorted.
-fn find_files(rt: &HostRuntime) -> io::Result<Vec<String>> {
-    let mut names = Vec::new(rt.alloc());
+fn read_words(rt: &HostRuntime) -> io::Result<Vec<String>> {
+    let mut words = Vec::new(rt.alloc());
     for word in env::args(rt)?.skip(1) {
-        names.push(word)?;
+        words.push(word)?;
     }
-    if names.is_empty() {
-        return list_folder(rt);
-    }
-    Ok(names)
+    Ok(words)
 }
 
+// All files of rows in the folder, sorted.
 fn list_folder(rt: &HostRuntime) -> io::Result<Vec<String>> {
     let mut names = Vec::new(rt.alloc());
     for entry in fs::read_dir(rt, ".")? {
@@ -122,13 +124,10 @@ fn play_file(rt: &HostRuntime, path: &str) -> io::Result<Verdict> {
 fn worse(first: Verdict, second: Verdict) -> Verdict {
     match first {
         Verdict::Same => second,
-        Verdict::Differs => {
-            if second == Verdict::NoMemory {
-                second
-            } else {
-                first
-            }
-        }
+        Verdict::Differs => match second {
+            Verdict::NoMemory => second,
+            _ => first,
+        },
         Verdict::NoMemory => first,
     }
 }
@@ -141,15 +140,44 @@ fn status_of(verdict: Verdict) -> u8 {
     }
 }
 
-fn main(rt: HostRuntime) -> io::Result<ExitCode> {
-    let names = find_files(&rt)?;
+// Plays the files of these names.
+fn play_files(rt: &HostRuntime, names: &[String]) -> io::Result<ExitCode> {
     if names.is_empty() {
-        println!(&rt; "no file *.rows")?;
+        println!(rt; "no file *.rows")?;
         return Ok(ExitCode::from(2));
     }
     let mut verdict = Verdict::Same;
-    for name in &names {
-        verdict = worse(verdict, play_file(&rt, name.as_str())?);
+    for name in names {
+        verdict = worse(verdict, play_file(rt, name.as_str())?);
     }
     Ok(ExitCode::from(status_of(verdict)))
+}
+
+fn play_folder(rt: &HostRuntime) -> io::Result<ExitCode> {
+    let names = list_folder(rt)?;
+    play_files(rt, names.as_slice())
+}
+
+// Does what the words behind `measure` ask, and prints the line that tells it.
+fn print_measure(rt: &HostRuntime, words: &[String]) -> io::Result<ExitCode> {
+    match measure_by(rt.alloc(), words) {
+        Ok(Some(line)) => {
+            println!(rt; "{line}")?;
+            Ok(ExitCode::SUCCESS)
+        }
+        Ok(None) => {
+            println!(rt; "{MEASURE_FORMS}")?;
+            Ok(ExitCode::from(2))
+        }
+        Err(_) => Ok(ExitCode::from(8)),
+    }
+}
+
+fn main(rt: HostRuntime) -> io::Result<ExitCode> {
+    let words = read_words(&rt)?;
+    match words.as_slice() {
+        [] => play_folder(&rt),
+        [mode, rest @ ..] if mode.as_str() == "measure" => print_measure(&rt, rest),
+        names => play_files(&rt, names),
+    }
 }

@@ -1,7 +1,0 @@
-use Rattle.px_event.specs.Layer.{IsSound}
-use Rattle.px_gate.specs.Gate.{GateStands}
-use Rattle.px_http.specs.Stands.{HttpStands, awaits}
-use Rattle.rows.proofs.conversation.play_lines.Given as goal
-
-abbrev pub invariant-loop-line : goal.invariant-loop-line
-invariant-loop-line l = IsSound (GateStands HttpStands awaits) l.player.gate
