@@ -1,7 +1,6 @@
 pub mod Base64Lemmas
 pub mod ChangeLemmas
 pub mod PieceLemmas
-pub mod RefusalLemmas
 pub mod RequestLemmas
 pub mod StayLemmas
 pub mod ValueLemmas

@@ -1,5 +1,5 @@
 -- Bytes that come in pieces.
-use Rattle.std.proofs.Common.{◌≡◌, ◌∙◌, ℕ, zero, suc, ◌<◌, Bool, true, false, ◌&&◌, cond, List, [], ◌∷◌, ◌++◌, map, slice_index, Option, Some, None, is_some, option_map, option_and_then, Result, Ok, Err, refl, sym, ap, subst, arith, append_assoc, append-nil}
+use Rattle.std.proofs.Common.{◌≡◌, ◌∙◌, ℕ, zero, suc, ◌<◌, Bool, true, false, ◌&&◌, cond, List, [], ◌∷◌, ◌++◌, map, Option, Some, None, is_some, option_map, option_and_then, Result, Ok, Err, refl, sym, ap, subst, arith, append_assoc, append-nil}
 use Rattle.std.specs.List.{concat, list_all}
 use Rattle.std.proofs.lemmas.List.Folds.{list_all-append}
 use Rattle.base64.specs.GeneralPurpose.{IsBytes}
@@ -22,13 +22,13 @@ use Rattle.px_draft.proofs.Base64Lemmas.{bytes_back}
 no_bytes : IsBytes []
 no_bytes i = omega arith
 
+one_more : (x : ℕ) (rest : List ℕ) → x < 256 → IsBytes rest → IsBytes (x ∷ rest)
+one_more x rest first others zero = first
+one_more x rest first others (suc i) = others i
+
 bytes_append : (a b : List ℕ) → IsBytes a → IsBytes b → IsBytes (a ++ b)
 bytes_append [] b first second = second
-bytes_append (x ∷ a) b first second = λ i. by_place i
-  where
-    by_place : (i : ℕ) → slice_index (x ∷ (a ++ b)) i < 256
-    by_place zero = first 0
-    by_place (suc i) = bytes_append a b (λ k. first (suc k)) second i
+bytes_append (x ∷ a) b first second = one_more x (a ++ b) (first 0) (bytes_append a b (λ k. first (suc k)) second)
 
 bytes_concat : (pieces : List (List ℕ)) → AreBytes pieces → IsBytes (concat pieces)
 bytes_concat [] are = no_bytes

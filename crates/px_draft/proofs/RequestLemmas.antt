@@ -33,6 +33,3 @@ located_is old new host (suc below) path is_host is_port is_path others =
 
 pub url_is : (old new : Request) (text : List ℕ) → ChangesUrlOnly old new → absolute_form text ≡ Some (new.host, new.port, new.path) → with_url text old ≡ Some new
 url_is old new text others form = ap (located old) form ∙ located_is old new new.host new.port new.path refl refl refl others
-
-pub no_url : (old : Request) (text : List ℕ) → absolute_form text ≡ None → with_url text old ≡ None
-no_url old text none = ap (located old) none

@@ -1,6 +1,6 @@
 -- Parts of a text.
-use Rattle.std.proofs.Common.{◌≡◌, ◌∙◌, ◌<◌, ◌≤◌, ◌↔◌, ℕ, zero, suc, ◌+◌, ◌*◌, List, [], ◌∷◌, ◌++◌, length, take, drop, refl, sym, ap, arith, length-take, length-drop, take-append-drop}
-use Rattle.std.proofs.lemmas.List.{take_all, drop-drop, drop_all, drop_min}
+use Rattle.std.proofs.Common.{◌≡◌, ◌∙◌, ◌<◌, ◌≤◌, ◌↔◌, ℕ, zero, suc, ◌+◌, ◌-◌, ◌*◌, List, [], ◌∷◌, ◌++◌, length, take, drop, refl, sym, ap, arith, length-take, length-drop, take-append-drop}
+use Rattle.std.proofs.lemmas.List.{take_all, take_rest, drop-drop, drop_all, drop_min}
 use Rattle.px_entry.specs.Parts.{most, part_of}
 use Rattle.px_entry.specs.Laws.{PartsMakeIt, PartsMakeTheEntry, parts}
 
@@ -37,6 +37,17 @@ none_of size from text some none =
 
 end_of : (size from : ℕ) (text : List ℕ) → length text ≤ from → take size (drop from text) ≡ []
 end_of size from text past = ap (take size) (drop_all from text past) ∙ take_all size [] (omega arith)
+
+-- at the end of a text and behind it there is nothing
+pub past_end : (from : ℕ) (text : List ℕ) → length text ≤ from → [] ≡ take most (drop from text)
+past_end from text past = sym (end_of most from text past)
+
+-- the part of what is left of a text
+pub tail_part : (from : ℕ) (text : List ℕ) → take most (take (length text - from) (drop from text)) ≡ take most (drop from text)
+tail_part from text = ap (take most) (take_rest text from)
+
+pub short_part : (text : List ℕ) → length text ≤ most → take most text ≡ text
+short_part text short = take_all most text short
 
 pub parts_make : PartsMakeTheEntry
 parts_make text = record {

@@ -23,6 +23,7 @@ pub fn write_part(alloc: Global, flow: &Flow, from: u64, out: &mut Vec<u8>) -> R
 }
 
 // The part of a text from that byte on.
+#[tactic(auto, using(crate::proofs::PartLemmas::past_end, crate::proofs::PartLemmas::tail_part))]
 fn part_of(text: &[u8], from: u64) -> &[u8]
     ensures { result.now ≡ part_of from text.now }
 {
@@ -33,6 +34,7 @@ fn part_of(text: &[u8], from: u64) -> &[u8]
 }
 
 // The first bytes, as many as a part has at most.
+#[tactic(auto, using(crate::proofs::PartLemmas::short_part))]
 fn front(text: &[u8]) -> &[u8]
     ensures { result.now ≡ take most text.now }
 {
