@@ -1,5 +1,5 @@
 -- Where the words of a line stand.
-use Rattle.std.proofs.Common.{◌≡◌, ◌∙◌, ◌⊎◌, ℕ, ◌+◌, ◌-◌, ◌<◌, Bool, true, false, List, [], ◌∷◌, length, take, drop, position, Option, Some, None, Result, Ok, Err, IfOk, IfErr, All, nat_lt, cond, refl, sym, ap, subst, arith, length-drop, inl, inr}
+use Rattle.std.proofs.Common.{◌≡◌, ◌∙◌, ℕ, ◌+◌, ◌-◌, ◌<◌, Bool, true, false, List, [], ◌∷◌, length, take, drop, position, Option, Some, None, Result, Ok, Err, IfOk, IfErr, All, nat_lt, cond, refl, sym, ap, subst, arith, length-drop, inl, inr}
 use Rattle.std.specs.List.{slice_split, position_or_len, onto_first}
 use Rattle.std.proofs.lemmas.Bool.{ltb-true, ltb-false}
 use Rattle.std.proofs.lemmas.List.{take_all}
@@ -8,7 +8,6 @@ use Rattle.std.proofs.lemmas.List.Sums.{fails_before_first}
 use Rattle.std.proofs.lemmas.Grind.{common_steps}
 use Rattle.px_draft.specs.declared.change.Change.{Change}
 use Rattle.px_draft.specs.declared.change.ReadError.{ReadError}
-use Rattle.px_draft.specs.declared.change.ReadError.TheVariants as error
 use Rattle.px_draft.specs.Changes.{IsNoChange, change_of_words, is_blank}
 
 -- a slice that goes to the end

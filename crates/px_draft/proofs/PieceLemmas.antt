@@ -1,6 +1,6 @@
 -- Bytes that come in pieces.
 use Rattle.std.proofs.Common.{◌≡◌, ◌∙◌, ℕ, zero, suc, ◌<◌, Bool, true, false, ◌&&◌, cond, List, [], ◌∷◌, ◌++◌, map, Option, Some, None, is_some, option_map, option_and_then, Result, Ok, Err, refl, sym, ap, subst, arith, append_assoc, append-nil}
-use Rattle.std.specs.List.{concat, list_all}
+use Rattle.std.specs.List.{concat}
 use Rattle.std.proofs.lemmas.List.Folds.{list_all-append}
 use Rattle.base64.specs.GeneralPurpose.{IsBytes}
 use Rattle.px_message.specs.Value.{is_value, is_value_byte}

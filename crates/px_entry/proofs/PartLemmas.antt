@@ -1,13 +1,15 @@
 -- Parts of a text.
-use Rattle.std.proofs.Common.{◌≡◌, ◌∙◌, ◌<◌, ◌≤◌, ◌↔◌, ℕ, zero, suc, ◌+◌, ◌-◌, ◌*◌, List, [], ◌∷◌, ◌++◌, length, take, drop, refl, sym, ap, arith, length-take, length-drop, take-append-drop}
+use Rattle.std.proofs.Common.{◌≡◌, ◌∙◌, ◌<◌, ◌≤◌, ℕ, zero, suc, ◌+◌, ◌-◌, ◌*◌, List, [], ◌∷◌, ◌++◌, length, take, drop, refl, sym, ap, arith, length-take, length-drop, take-append-drop}
 use Rattle.std.proofs.lemmas.List.{take_all, take_rest, drop-drop, drop_all, drop_min}
 use Rattle.px_entry.specs.Parts.{most, part_of}
-use Rattle.px_entry.specs.Laws.{PartsMakeIt, PartsMakeTheEntry, parts}
+use Rattle.px_entry.specs.Laws.{PartsMakeTheEntry, parts}
 
 take_sum : (n m : ℕ) (text : List ℕ) → take (n + m) text ≡ take n text ++ take m (drop n text)
-take_sum zero m text = refl
-take_sum (suc n) m [] = sym (take_all m [] (omega arith))
-take_sum (suc n) m (b ∷ text) = ap (λ (l : List ℕ). b ∷ l) (take_sum n m text)
+take_sum zero m text = let same : zero + m ≡ m = omega arith in ap (λ k. take k text) same
+take_sum (suc n) m [] = take_all (suc n + m) [] (omega arith) ∙ sym (take_all m [] (omega arith))
+take_sum (suc n) m (b ∷ text) =
+    let next : suc n + m ≡ suc (n + m) = omega arith in
+    ap (λ k. take k (b ∷ text)) next ∙ ap (λ (l : List ℕ). b ∷ l) (take_sum n m text)
 
 -- the front of a text, and as many bytes behind it as a part has
 part_more : (size count : ℕ) (text : List ℕ) → take (count * size) text ++ take size (drop (count * size) text) ≡ take (suc count * size) text
