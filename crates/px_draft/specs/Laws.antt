@@ -34,6 +34,10 @@ NoChangeIsTheFlow = (hook : Hook) (flow : Flow) → flow_of (changed_by [] (fres
 abbrev pub RefusalChangesNothing : Type 0
 RefusalChangesNothing = (change : Change) (draft : Draft) (refusal : ChangeError) → changed change draft ≡ Err refusal → behind draft change ≡ draft
 
+-- Lines that follow others change what these made.
+abbrev pub LinesFollow : Type 0
+LinesFollow = (changes more : List Change) (draft : Draft) → changed_by (changes ++ more) draft ≡ changed_by more (changed_by changes draft)
+
 -- ---- pieces
 
 -- the line that puts a field of this value

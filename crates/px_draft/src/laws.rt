@@ -1,5 +1,5 @@
 //! Laws. Each function does nothing; what it ensures is the law.
-ghost use Rattle.px_draft.specs.Laws.{Base64IsRead, ChangesStayAtTheirMessage, NoChangeIsTheFlow, PiecesMakeOne, RefusalChangesNothing};
+ghost use Rattle.px_draft.specs.Laws.{Base64IsRead, ChangesStayAtTheirMessage, LinesFollow, NoChangeIsTheFlow, PiecesMakeOne, RefusalChangesNothing};
 
 /// A law: the base64 of bytes is read as these bytes, and no other text is.
 pub fn base64_is_read()
@@ -14,6 +14,11 @@ pub fn no_change_is_the_flow()
 /// A law: behind a line that is refused the draft is as before, also in what `more` goes on with.
 pub fn refusal_changes_nothing()
     ensures { RefusalChangesNothing }
+{}
+
+/// A law: lines that follow others change what these made.
+pub fn lines_follow()
+    ensures { LinesFollow }
 {}
 
 /// A law: a field or a body that comes in pieces, by `more`, is that of one line with the whole.

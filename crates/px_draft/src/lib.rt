@@ -36,7 +36,7 @@ pub use change::{Change, ReadError, read_change};
 pub use draft::Draft;
 pub use error::ChangeError;
 pub use laws::{
-    base64_is_read, changes_stay_at_their_message, no_change_is_the_flow, pieces_make_one,
-    refusal_changes_nothing,
+    base64_is_read, changes_stay_at_their_message, lines_follow, no_change_is_the_flow,
+    pieces_make_one, refusal_changes_nothing,
 };
 pub use rows::drafts_are_changed;
