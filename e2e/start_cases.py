@@ -8,6 +8,7 @@ from tools import MITM, TOP, Mitm, Skipped, curl, line, same, url
 
 LARGEST = 64 * 1024
 RES_OPTIONS = "timeout:1 attempts:1"
+TUNABLES = "glibc.malloc.hugetlb=1"
 
 
 def started(*words):
@@ -40,12 +41,14 @@ def case_words_through_the_starting_script():
 
 
 def case_what_the_starting_script_sets():
-    """How long a name server is waited for, unless the user says that; and a write beyond the limit of a file's size ends nothing."""
-    for given, wanted in ((None, RES_OPTIONS), ("ndots:2", "ndots:2"), ("", "")):
-        with Mitm(in_front=(*(() if given is None else ("env", f"RES_OPTIONS={given}")), *started_here())) as mitm:
+    """How long a name server is waited for and that memory comes in large pages, unless the user says that; and a write beyond the limit of a file's size ends nothing."""
+    sets = {b"RES_OPTIONS": RES_OPTIONS, b"GLIBC_TUNABLES": TUNABLES}
+    for given in ({}, {b"RES_OPTIONS": "ndots:2", b"GLIBC_TUNABLES": "glibc.malloc.mmap_max=1000"}, {b"RES_OPTIONS": "", b"GLIBC_TUNABLES": ""}):
+        says = [f"{name.decode()}={value}" for name, value in given.items()]
+        with Mitm(in_front=(*(("env", *says) if says else ()), *started_here())) as mitm:
             with open(f"/proc/{mitm.process.pid}/environ", "rb") as file:
                 names = dict(one.partition(b"=")[::2] for one in file.read().split(b"\0"))
-            same(names[b"RES_OPTIONS"].decode(), wanted)
+            same({name: names[name].decode() for name in sets}, {**sets, **given})
             with open(f"/proc/{mitm.process.pid}/status") as file:
                 ignored, = (int(one.split()[1], 16) for one in file if one.startswith("SigIgn:"))
             assert ignored >> 24 & 1, f"{ignored:x}: the signal of a file that is too large is not ignored"
