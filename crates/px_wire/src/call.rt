@@ -5,7 +5,7 @@ use px_message::Address;
 use px_text::Bytes;
 
 /// One call of a wire with its answer. Calls that answered out of memory are not listed, nor is `listen`.
-#[derive(Debug, Drop, PartialEq, Eq)]
+#[derive(Drop)]
 pub enum WireCall {
     /// `ready` told this, at this moment.
     Told {

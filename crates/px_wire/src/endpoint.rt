@@ -21,7 +21,7 @@ pub enum Flushed {
 pub const READ_MARK: usize = 262_144;
 
 /// A slot in use.
-#[derive(Debug, Drop)]
+#[derive(Drop)]
 pub struct Endpoint {
     pub slot: u32,
     pub conv: u32,

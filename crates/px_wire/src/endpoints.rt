@@ -22,7 +22,7 @@ use std::collections::{BTreeMap, HashMap};
 use std::mem;
 
 /// What is to be done next, of what can be heard without waiting.
-#[derive(Clone, Copy, Debug, PartialEq, Eq)]
+#[derive(Clone, Copy)]
 pub enum Due {
     /// The close of this slot's side is to be heard.
     Over(u32),
@@ -33,7 +33,7 @@ pub enum Due {
 }
 
 /// The slots in use.
-#[derive(Debug, Drop)]
+#[derive(Drop)]
 pub struct Endpoints {
     pub(crate) by_slot: HashMap<u32, Endpoint>,
     // The slots of each conversation that has one.
@@ -335,7 +335,7 @@ impl Endpoints {
         };
         take_out(list, slot);
         if list.is_empty() {
-            self.by_conv.remove(&conv);
+            drop(self.by_conv.remove(&conv));
         }
     }
 

@@ -51,8 +51,13 @@ pub fn hear<W: Wire>(
     ensures kept { (past : Calls) (times : ℕ) → AnsweredSince past times (W.calls wire.old) → AnsweredSince past times (W.calls wire.new) }
 {
     let step = Step::Heard { moment, heard };
-    wire.note(&step)?;
-    Ok(heard_in(step))
+    match wire.note(&step) {
+        Ok(()) => Ok(heard_in(step)),
+        Err(error) => {
+            drop(step);
+            Err(error)
+        }
+    }
 }
 
 // What is heard in the step, and when.
@@ -61,7 +66,10 @@ fn heard_in(step: Step) -> Option<(u64, Heard)>
 {
     match step {
         Step::Heard { moment, heard } => Some((moment, heard)),
-        _ => None,
+        other => {
+            drop(other);
+            None
+        }
     }
 }
 

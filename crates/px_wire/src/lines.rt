@@ -30,7 +30,7 @@ const ROOM: usize = 65_536;
 
 /// A network over a wire: a queue for each side of what was said to it and not yet taken. What it keeps stands for the
 /// calls of its wire.
-#[derive(Debug, Drop)]
+#[derive(Drop)]
 pub struct Lines<W: Wire> {
     alloc: Global,
     wire: W,
@@ -187,6 +187,7 @@ impl<W: Wire> Net for Lines<W> {
         ensures calls_err { OnErr result (W.calls self.new.wire ≡ W.calls self.old.wire) }
     {
         if self.is_spent {
+            drop(said);
             return Err(NoMemory);
         }
         say(self.alloc, &mut self.wire, &mut self.table, conv, said)

@@ -12,7 +12,7 @@ ghost use Rattle.px_wire.specs.declared.call.WireCall.{WireCall as Call};
 ghost use Rattle.px_wire.specs.declared.call.WireCall.TheVariants.{Told, NotReady, Dialled, Noted, Shut};
 ghost use Rattle.px_wire.specs.Calls.{Calls, AsksMore, Tells, IfTold, IsFree, GivesFree, GotWithin, PutWithin, step_in, slots_after, without_slot, put_call as call_of_put, got_call as call_of_got};
 ghost use Rattle.px_wire.specs.Puts.{taken_in, taken_from};
-ghost use Rattle.px_wire.specs.MemWire.{calls_of, steps_in, calls_told, steps_told, later_of, no_calls, may_tell as may_be_told, told_by, script_left, taken_by as count_taken, put_answer, given_by, room_after, gives_left, pieces_of, asked_once, blocks_put, blocks_got, IsLeastFree, keeping, after_told, after_not_ready, after_dial, after_put, after_get, after_shut, listens};
+ghost use Rattle.px_wire.specs.MemWire.{calls_of, steps_in, calls_told, steps_told, later_of, no_calls, may_tell as may_be_told, told_by, script_left, taken_by as count_taken, put_answer, given_by, room_after, gives_left, pieces_of, asked_once, blocks_put, blocks_got, IsLeastFree, listening_of, keeping, after_told, after_not_ready, after_dial, after_put, after_get, after_shut, listens};
 
 use crate::{Got, Put, Ready, Wire, WireCall};
 use px_event::Step;
@@ -22,9 +22,10 @@ use px_text::{Bytes, NoMemory};
 use std::alloc::Global;
 use std::collections::VecDeque;
 use std::marker::Model;
+use std::mem;
 
 /// A wire that follows three lists, and keeps its calls and the steps that it was handed.
-#[derive(Debug, Drop)]
+#[derive(Drop)]
 pub struct MemWire {
     alloc: Global,
     script: VecDeque<(u64, Ready)>,
@@ -42,7 +43,7 @@ pub struct MemWire {
 }
 
 // Whether it was asked to listen, and where it does.
-#[derive(Debug, Drop)]
+#[derive(Drop)]
 enum Listening {
     Idle,
     Failed,
@@ -184,7 +185,10 @@ fn keep_step(
 {
     match later {
         None => push_made(list, call),
-        Some(steps) => push_copy(steps, step),
+        Some(steps) => {
+            drop(call);
+            push_copy(steps, step)
+        }
     }
 }
 
@@ -225,6 +229,7 @@ fn next_told(script: &mut VecDeque<(u64, Ready)>, slots: &[u32]) -> Option<(u64,
         if may_tell(slots, &ready) {
             return Some((moment, ready));
         }
+        drop(ready);
     }
     None
 }
@@ -269,12 +274,12 @@ fn give(gives: &mut VecDeque<Vec<u8>>, room: &mut [u8]) -> Got
         return Got::Blocked;
     };
     if give.is_empty() {
-        let _ = gives.pop_front();
+        drop(gives.pop_front());
         return Got::Ended;
     }
     let count = move_front(give, room);
     if give.is_empty() {
-        let _ = gives.pop_front();
+        drop(gives.pop_front());
     }
     Got::Gave(count)
 }
@@ -294,20 +299,41 @@ fn move_front(give: &mut Vec<u8>, room: &mut [u8]) -> usize
 fn told_call(moment: u64, ready: &Ready) -> Result<WireCall, NoMemory>
     ensures { IfOk result (λ call. call ≡ Told moment ready.now) }
 {
-    let ready = ready.clone()?;
+    let ready = copy_of(ready)?;
     Ok(WireCall::Told { moment, ready })
+}
+
+// The same is told.
+fn copy_of(ready: &Ready) -> Result<Ready, NoMemory>
+    ensures { IfOk result (λ copy. copy ≡ ready.now) }
+{
+    match ready {
+        Ready::Accepted { slot, door, peer } => Ok(Ready::Accepted {
+            slot: *slot,
+            door: *door,
+            peer: peer.try_clone()?,
+        }),
+        Ready::Readable(slot) => Ok(Ready::Readable(*slot)),
+        Ready::Writable(slot) => Ok(Ready::Writable(*slot)),
+        Ready::Dialled(slot, ok) => Ok(Ready::Dialled(*slot, *ok)),
+    }
 }
 
 fn dialled_call(address: &Address, step: &Step, slot: u32) -> Result<WireCall, NoMemory>
     ensures { IfOk result (λ call. call ≡ Dialled address.now step.now slot) }
 {
     let address = address.try_clone()?;
-    let step = step.try_clone()?;
-    Ok(WireCall::Dialled {
-        address,
-        step,
-        slot,
-    })
+    match step.try_clone() {
+        Ok(step) => Ok(WireCall::Dialled {
+            address,
+            step,
+            slot,
+        }),
+        Err(error) => {
+            drop(address);
+            Err(error)
+        }
+    }
 }
 
 fn noted_call(step: &Step) -> Result<WireCall, NoMemory>
@@ -353,6 +379,30 @@ fn once_more(asks: Option<u64>) -> Option<u64>
     match asks {
         Some(count) => count.checked_add(1),
         None => None,
+    }
+}
+
+// It listens there.
+fn listening_at(proxy: &Address, control: Option<&Address>) -> Result<Listening, NoMemory>
+    ensures { IfOk result (λ made. listening_of made ≡ at proxy.now (option_copied control.entry)) }
+{
+    let control = copied(control)?;
+    match proxy.try_clone() {
+        Ok(proxy) => Ok(Listening::At { proxy, control }),
+        Err(error) => {
+            drop(control);
+            Err(error)
+        }
+    }
+}
+
+// A copy of the address, where there is one.
+fn copied(address: Option<&Address>) -> Result<Option<Address>, NoMemory>
+    ensures { IfOk result (λ copy. copy ≡ option_copied address.entry) }
+{
+    match address {
+        Some(address) => Ok(Some(address.try_clone()?)),
+        None => Ok(None),
     }
 }
 
@@ -436,14 +486,16 @@ impl Wire for MemWire {
         ensures after_ok { OnOk result (self.new ≡ listens self.old (at proxy.now (option_copied control.entry))) }
         ensures after_err { OnErr result (self.new ≡ listens self.old failed) }
     {
-        self.listening = Listening::Failed;
-        let proxy = proxy.try_clone()?;
-        let control = match control {
-            Some(address) => Some(address.try_clone()?),
-            None => None,
-        };
-        self.listening = Listening::At { proxy, control };
-        Ok(())
+        match listening_at(proxy, control) {
+            Ok(listening) => {
+                drop(mem::replace(&mut self.listening, listening));
+                Ok(())
+            }
+            Err(_) => {
+                drop(mem::replace(&mut self.listening, Listening::Failed));
+                Err(NetError::NoMemory)
+            }
+        }
     }
 
     fn ready(&mut self) -> Result<(u64, Ready), NetError>

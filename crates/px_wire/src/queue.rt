@@ -13,7 +13,7 @@ use std::marker::Model;
 
 /// Bytes that wait to be taken, in their order. They are kept in the pieces in which they came, shared. The pieces joined are
 /// the bytes that wait, and no piece is empty: a piece of which all was taken is held no longer.
-#[derive(Debug, Drop)]
+#[derive(Drop)]
 pub struct Queue {
     pieces: VecDeque<Bytes>,
     // How many bytes there are in all pieces.
@@ -86,10 +86,17 @@ impl Queue {
         };
         self.pieces.try_reserve(1)?;
         let piece = bytes.try_clone()?;
-        wire.note(step)?;
-        self.pieces.push_back_reserved(piece);
-        self.len = len;
-        Ok(())
+        match wire.note(step) {
+            Ok(()) => {
+                self.pieces.push_back_reserved(piece);
+                self.len = len;
+                Ok(())
+            }
+            Err(error) => {
+                drop(piece);
+                Err(error)
+            }
+        }
     }
 
     /// Takes this many bytes off the front.
@@ -123,7 +130,9 @@ impl Queue {
         };
         let taken = most.min(first.len());
         first.advance(taken);
-        if !first.is_empty() {
+        if first.is_empty() {
+            drop(first);
+        } else {
             self.pieces.push_front_reserved(first);
         }
         self.len -= taken;

@@ -41,10 +41,12 @@ pub fn say<W: Wire>(
     ensures kept { (past : Calls) (times : ℕ) → AnsweredSince past times (W.calls wire.old) → AnsweredSince past times (W.calls wire.new) }
 {
     let step = Step::Said { conv, said };
-    match &step {
+    let done = match &step {
         Step::Said { said, .. } => say_in(alloc, wire, table, conv, said, &step),
         _ => unreachable!(),
-    }
+    };
+    drop(step);
+    done
 }
 
 // Says it; the step is the one that says it.

@@ -6,7 +6,7 @@ use crate::endpoints::Endpoints;
 use std::alloc::Global;
 
 /// What lines know of their wire.
-#[derive(Debug, Drop)]
+#[derive(Drop)]
 pub struct Table {
     pub endpoints: Endpoints,
     /// How many connections were accepted and have a number.

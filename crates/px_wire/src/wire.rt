@@ -12,7 +12,7 @@ use px_outside::NetError;
 use px_text::NoMemory;
 
 /// What a wire is ready for.
-#[derive(Clone, Debug, Drop, PartialEq, Eq)]
+#[derive(Drop)]
 pub enum Ready {
     /// A connection was accepted at this door; it has this slot.
     Accepted {
@@ -29,7 +29,7 @@ pub enum Ready {
 }
 
 /// What a wire did with bytes that were put.
-#[derive(Clone, Copy, Debug, PartialEq, Eq)]
+#[derive(Clone, Copy, PartialEq, Eq)]
 pub enum Put {
     /// It took this many of them, at least one, from their front.
     Took(usize),
@@ -40,7 +40,7 @@ pub enum Put {
 }
 
 /// What a wire gave.
-#[derive(Clone, Copy, Debug, PartialEq, Eq)]
+#[derive(Clone, Copy, PartialEq, Eq)]
 pub enum Got {
     /// This many bytes, at least one, at the front of the room.
     Gave(usize),

@@ -4,8 +4,8 @@ use Rattle.std.specs.List.{concat}
 use Rattle.px_wire.proofs.QueueLemmas.{concat_pushed}
 use Rattle.px_wire.proofs.queue.Queue.push_noted.Goals as goal
 
-pub invariant_of-self-2 : goal.invariant_of-self-2
-invariant_of-self-2 g c =
+pub invariant_of-self-in-Ok : goal.invariant_of-self-in-Ok
+invariant_of-self-in-Ok g c =
     let old = c.self.inside.pieces.items in
     let mid = c.try_reserve.new.self.items in
     let new = c.push_back_reserved.new.self.items in
@@ -17,8 +17,8 @@ invariant_of-self-2 g c =
     let count = length-append (concat old) piece in
     (search rules, All-same (λ x. 0 < length x) _ _ items (All-push (λ x. 0 < length x) old piece c.self.invariant.1 (search rules)))
 
-pub returns-clause-ok : goal.returns-clause-ok
-returns-clause-ok g c =
+pub returns-in-Ok-clause-ok : goal.returns-in-Ok-clause-ok
+returns-in-Ok-clause-ok g c =
     let old = c.self.inside.pieces.items in
     let piece = c.in_ok-piece.piece in
     concat_pushed old _ _ piece c.in_ok-try_reserve.ensures.items c.push_back_reserved.ensures.items
