@@ -18,17 +18,26 @@ use Rattle.px_exchange.specs.declared.taken.Taken.{Taken}
 use Rattle.px_exchange.specs.declared.taken.Taken.TheVariants.{GoesOn, Responds, Kills}
 use Rattle.px_exchange.specs.declared.place.Place.{Place}
 use Rattle.px_exchange.specs.declared.terms.Terms.{Terms}
-use Rattle.px_chain.specs.Chain.{behind, find, finish_by, given_at, goes_on_by, leaving, look, parked_for, turn, turn_answer, turn_answer_head, turn_body, turn_dial, turn_head, turn_judged, turn_response, turn_returned, turn_taken_answer, turn_taken_body, turn_taken_given, turn_taken_head, turn_taken_returned, turn_taken_whole, turn_whole_answer}
+use Rattle.px_chain.specs.Chain.{behind, find, finish_by, given_at, goes_on_by, leaving, look, look_coming, parked_for, pass, pass_came, pass_kept, turn, turn_answer, turn_answer_head, turn_body, turn_dial, turn_head, turn_judged, turn_response, turn_returned, turn_taken_answer, turn_taken_body, turn_taken_given, turn_taken_head, turn_taken_returned, turn_taken_whole, turn_whole_answer}
 use Rattle.px_exchange.specs.Flows.{response_of, with_answer, with_body, with_returned}
-use Rattle.px_exchange.specs.Endings.{without_response, killed_message, closed_message, connection_goes_on, shut_server}
+use Rattle.px_exchange.specs.Endings.{closed_message, connection_goes_on, killed_message, shut_server, shut_unless, without_response}
 use Rattle.px_exchange.specs.EndOrder.{EndsInOrder, FoundInOrder, OnlyCloses}
 use Rattle.px_exchange.specs.Replies.{taken_at_request_body, taken_at_request_head, taken_at_response_body, taken_at_response_head}
 use Rattle.px_exchange.specs.Requests.{expects, flow_of, judged}
-use Rattle.px_chain.specs.Stages.{At, Stage, idle, busy, next, over, request_body, connection, response_head, response_body, given_head, given_body, upgraded}
-use Rattle.px_exchange.proofs.OrderLemmas.{closes_end, server_closes, early_ends, finished_ends, dial_ends, expectation_ends, head_ends, body_ends, answer_ends, returned_ends, leaves_ends}
+use Rattle.px_chain.specs.Stages.{At, Stage, idle, busy, coming_down, next, over, request_body, connection, response_head, response_body, given_head, given_body, upgraded, Sent}
+use Rattle.px_exchange.proofs.OrderLemmas.{closes_end, server_closes, early_ends, finished_ends, dial_ends, expectation_ends, head_ends, body_ends, answer_ends, returned_ends, leaves_ends, closes_both, unless_closes}
 use Rattle.px_chain.specs.Sights.{Sight, answers_in, request_in, server_in, server_parked}
+use Rattle.px_chain.specs.Coming.{Came, allowed_by, came_in, goes_on_behind, streaming, streams_in}
+use Rattle.px_write.specs.Error.{fault_message}
 
 -- ---- what is found
+
+coming_ends : (flow : Flow) (item : Item ReadResponse) (moment : ℕ) (used : Used) (closed : Bool) → FoundInOrder (look_coming flow item moment used closed)
+coming_ends flow missing moment used closed = tt
+coming_ends flow (part head body) moment used closed = tt
+coming_ends flow (complete head body trailers size) moment used closed = tt
+coming_ends flow (bad_head fault) moment used closed = tt
+coming_ends flow (bad_body fault head body) moment used closed = early_ends flow (fault_message fault) moment used closed
 
 module _ (terms : Terms) where
   finds_ends : (stage : Stage) (seen : Sight) → FoundInOrder (find terms stage seen)
@@ -36,7 +45,8 @@ module _ (terms : Terms) where
   finds_ends (busy at flow (request_body given)) seen = body_ends flow (request_in seen) seen.now (server_parked at.parked seen) seen.closed
   finds_ends (busy at flow connection) seen = tt
   finds_ends (busy at flow (response_head side how)) seen = answer_ends flow (answers_in flow.request seen).final seen.now (server_in side seen) seen.closed
-  finds_ends (busy at flow (response_body side how)) seen = returned_ends flow (answers_in flow.request seen).final seen.now (server_in side seen) seen.closed
+  finds_ends (busy at flow (response_body side how most)) seen = returned_ends flow (answers_in flow.request seen).final seen.now (server_in side seen) seen.closed
+  finds_ends (busy at flow (coming_down side how)) seen = coming_ends flow (answers_in flow.request seen).final seen.now (server_in side seen) seen.closed
   finds_ends (busy at flow (upgraded side)) seen = tt
   finds_ends (busy at flow given_head) seen = tt
   finds_ends (busy at flow given_body) seen = tt
@@ -48,7 +58,8 @@ module _ (terms : Terms) where
   leaving_ends (busy at flow (request_body given)) seen = early_ends flow closed_message seen.now (server_parked at.parked seen) true
   leaving_ends (busy at flow connection) seen = tt
   leaving_ends (busy at flow (response_head side how)) seen = early_ends flow closed_message seen.now (server_in side seen) true
-  leaving_ends (busy at flow (response_body side how)) seen = early_ends (without_response flow) closed_message seen.now (server_in side seen) true
+  leaving_ends (busy at flow (response_body side how most)) seen = early_ends (without_response flow) closed_message seen.now (server_in side seen) true
+  leaving_ends (busy at flow (coming_down side how)) seen = early_ends flow closed_message seen.now (server_in side seen) true
   leaving_ends (busy at flow (upgraded side)) seen = tt
   leaving_ends (busy at flow given_head) seen = tt
   leaving_ends (busy at flow given_body) seen = tt
@@ -101,16 +112,17 @@ module _ (terms : Terms) where
   turn_dial_ends : (place : Place) (at : At) (flow : Flow) (answer : Timed Reply) (closed : Bool) → EndsInOrder (turn_dial place at flow answer closed).owed
   turn_dial_ends place at flow answer closed = dial_ends place flow at.dials answer.value answer.moment closed
 
-  taken_answer_ends : (at : At) (flow : Flow) (side : ℕ) (taken : Taken Response) (moment : ℕ) (used : Used) (closed : Bool) → EndsInOrder (turn_taken_answer at flow side taken moment used closed).owed
-  taken_answer_ends at flow side (GoesOn message) moment used closed = tt
-  taken_answer_ends at flow side (Responds response) moment used closed = early_ends (without_response flow) killed_message moment used closed
-  taken_answer_ends at flow side Kills moment used closed = early_ends (without_response flow) killed_message moment used closed
+  taken_answer_ends : (at : At) (flow : Flow) (side : ℕ) (most : Option ℕ) (taken : Taken Response) (moment : ℕ) (used : Used) (closed : Bool) →
+      EndsInOrder (turn_taken_answer at flow side most taken moment used closed).owed
+  taken_answer_ends at flow side most (GoesOn message) moment used closed = tt
+  taken_answer_ends at flow side most (Responds response) moment used closed = early_ends (without_response flow) killed_message moment used closed
+  taken_answer_ends at flow side most Kills moment used closed = early_ends (without_response flow) killed_message moment used closed
 
-  answer_head_ends : (at : At) (flow : Flow) (side : ℕ) (head : ReadResponse) (seen : Sight) (answer : Timed Reply) → EndsInOrder (turn_answer_head at flow side head seen answer).owed
+  answer_head_ends : (at : At) (flow : Flow) (side : ℕ) (head : ReadResponse) (seen : Sight) (answer : Timed Reply) → EndsInOrder (turn_answer_head terms at flow side head seen answer).owed
   answer_head_ends at flow side head seen answer =
-      taken_answer_ends at (with_answer flow (response_of head) seen.now) side (taken_at_response_head (response_of head) answer.value) answer.moment (server_in side seen) seen.closed
+      taken_answer_ends at (with_answer flow (response_of head) seen.now) side (allowed_by terms.streams answer.value) (taken_at_response_head (response_of head) answer.value) answer.moment (server_in side seen) seen.closed
 
-  turn_answer_ends : (at : At) (flow : Flow) (side : ℕ) (item : Item ReadResponse) (seen : Sight) (answer : Timed Reply) → EndsInOrder (turn_answer at flow side item seen answer).owed
+  turn_answer_ends : (at : At) (flow : Flow) (side : ℕ) (item : Item ReadResponse) (seen : Sight) (answer : Timed Reply) → EndsInOrder (turn_answer terms at flow side item seen answer).owed
   turn_answer_ends at flow side missing seen answer = tt
   turn_answer_ends at flow side (part head body) seen answer = answer_head_ends at flow side head seen answer
   turn_answer_ends at flow side (complete head body trailers size) seen answer = answer_head_ends at flow side head seen answer
@@ -166,7 +178,8 @@ module _ (terms : Terms) where
   turns_in_order (busy at flow (request_body given)) seen answer = turn_body_ends terms.place at flow (request_in seen) seen answer
   turns_in_order (busy at flow connection) seen answer = turn_dial_ends terms.place at flow answer seen.closed
   turns_in_order (busy at flow (response_head side how)) seen answer = turn_answer_ends at flow side (answers_in flow.request seen).final seen answer
-  turns_in_order (busy at flow (response_body side how)) seen answer = turn_returned_ends at flow side (answers_in flow.request seen).final seen answer
+  turns_in_order (busy at flow (response_body side how most)) seen answer = turn_returned_ends at flow side (answers_in flow.request seen).final seen answer
+  turns_in_order (busy at flow (coming_down side how)) seen answer = tt
   turns_in_order (busy at flow (upgraded side)) seen answer = tt
   turns_in_order (busy at flow given_head) seen answer =
       let asked_flow : Flow = given_at flow seen.now in
@@ -177,6 +190,32 @@ module _ (terms : Terms) where
   turns_in_order (next at) seen answer = tt
   turns_in_order over seen answer = tt
 
+-- ---- where it passes
+
+came_in_order : (at : At) (flow : Flow) (side : ℕ) (how : Sent) (seen : Sight) (came : Option Came) → EndsInOrder (pass_came at flow side how seen came).owed
+came_in_order at flow side how seen None = tt
+came_in_order at flow side how seen (Some came) =
+    let stays : Bool = goes_on_behind at.flow flow.request came in
+    closes_both (shut_server (server_in side seen)) (shut_unless stays NoServer seen.closed) (server_closes (server_in side seen)) (unless_closes stays NoServer seen.closed)
+
+kept_in_order : (streams : Bool) (at : At) (flow : Flow) (side : ℕ) (how : Sent) (most : Option ℕ) (seen : Sight) → EndsInOrder (pass_kept streams at flow side how most seen).owed
+kept_in_order true at flow side how most seen = came_in_order at (streaming flow) side how seen (came_in (streaming flow) seen)
+kept_in_order false at flow side how most seen = tt
+
+-- What is owed where it passes is in order.
+pub passes_in_order : (stage : Stage) (seen : Sight) → EndsInOrder (pass stage seen).owed
+passes_in_order (idle at) seen = tt
+passes_in_order (busy at flow (request_body given)) seen = tt
+passes_in_order (busy at flow connection) seen = tt
+passes_in_order (busy at flow (response_head side how)) seen = tt
+passes_in_order (busy at flow (response_body side how most)) seen = kept_in_order (streams_in flow most seen) at flow side how most seen
+passes_in_order (busy at flow (coming_down side how)) seen = came_in_order at flow side how seen (came_in flow seen)
+passes_in_order (busy at flow (upgraded side)) seen = tt
+passes_in_order (busy at flow given_head) seen = tt
+passes_in_order (busy at flow given_body) seen = tt
+passes_in_order (next at) seen = tt
+passes_in_order over seen = tt
+
 -- ---- behind an ask
 
 -- What is owed behind an ask is closes alone.
@@ -185,7 +224,8 @@ behind_closes (idle at) seen = tt
 behind_closes (busy at flow (request_body given)) seen = tt
 behind_closes (busy at flow connection) seen = server_closes (server_parked at.parked seen)
 behind_closes (busy at flow (response_head side how)) seen = tt
-behind_closes (busy at flow (response_body side how)) seen = tt
+behind_closes (busy at flow (response_body side how most)) seen = tt
+behind_closes (busy at flow (coming_down side how)) seen = tt
 behind_closes (busy at flow (upgraded side)) seen = tt
 behind_closes (busy at flow given_head) seen = tt
 behind_closes (busy at flow given_body) seen = tt

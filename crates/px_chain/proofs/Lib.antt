@@ -10,3 +10,6 @@ pub mod OnceLemmas
 pub mod SilentLemmas
 pub mod SentLemmas
 pub mod EndLemmas
+pub mod ComingLaws
+pub mod LeftLemmas
+pub mod StreamedExamples

@@ -7,7 +7,7 @@ use Rattle.px_event.specs.declared.command.Command.{Command}
 use Rattle.px_event.specs.declared.command.Command.TheVariants as commands
 use Rattle.px_event.specs.Chain.{Look, NotYet, Asks, Ends, Turn}
 use Rattle.px_exchange.specs.declared.terms.Terms.{Terms}
-use Rattle.px_chain.specs.Stages.{At, Doing, Stage, idle, busy, next, over, request_body, connection, response_head, response_body, given_head, given_body, upgraded}
+use Rattle.px_chain.specs.Stages.{At, Doing, Stage, idle, busy, coming_down, next, over, request_body, connection, response_head, response_body, given_head, given_body, upgraded}
 
 -- it asks nothing, and a flow that it ends has such a number
 abbrev pub IsQuiet : (FlowId → Type 0) → Command → Type 0
@@ -58,7 +58,8 @@ abbrev pub IsBehindBy : ℕ → ℕ → ℕ → At → Doing → Type 0
 IsBehindBy flow dials count at (request_body given) = SameFlow flow dials at × (4 < count)
 IsBehindBy flow dials count at connection = SameFlow flow dials at × (3 < count)
 IsBehindBy flow dials count at (response_head side how) = SameFlow flow (dials + 1) at × (2 < count)
-IsBehindBy flow dials count at (response_body side how) = SameFlow flow dials at × (1 < count)
+IsBehindBy flow dials count at (response_body side how most) = SameFlow flow dials at × (1 < count)
+IsBehindBy flow dials count at (coming_down side how) = SameFlow flow dials at × (0 < count)
 IsBehindBy flow dials count at (upgraded side) = SameFlow flow dials at × (0 < count)
 IsBehindBy flow dials count at given_head = SameFlow flow dials at × (2 < count)
 IsBehindBy flow dials count at given_body = SameFlow flow dials at × (1 < count)
@@ -75,7 +76,7 @@ EndsNone (next at) owed = ⊤
 EndsNone over owed = ⊤
 EndsNone stage owed = AllQuiet no_flow owed
 
--- What a reply brings: it asks nothing at once, and leads on.
+-- What a reply brings, or a passage: it asks nothing at once, and leads on.
 pub record Leads (terms : Terms) (is : FlowId → Type 0) (flow dials count : ℕ) (turned : Turn Stage Command) : Type 0 where
   pub quiet : AllQuiet is turned.owed
   pub is_of : IsOf terms is turned.stage

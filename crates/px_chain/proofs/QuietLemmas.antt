@@ -24,19 +24,21 @@ use Rattle.px_exchange.specs.declared.ending.Used.TheVariants.{NoServer, ByServe
 use Rattle.px_exchange.specs.declared.taken.Taken.{Taken}
 use Rattle.px_exchange.specs.declared.taken.Taken.TheVariants.{GoesOn, Responds, Kills}
 use Rattle.px_exchange.specs.declared.terms.Terms.{Terms}
-use Rattle.px_chain.specs.Chain.{behind, behind_flow, dial_leads, find, finish, finish_by, given_at, goes_on_by, killed, leaving, look, parked_for, pass, pass_body, so_far, turn, turn_answer, turn_answer_head, turn_body, turn_head, turn_judged, turn_response, turn_returned, turn_taken_answer, turn_taken_body, turn_taken_given, turn_taken_head, turn_taken_returned, turn_taken_whole, turn_whole_answer}
+use Rattle.px_chain.specs.Chain.{behind, behind_flow, dial_leads, find, finish, finish_by, given_at, goes_on_by, goes_to, killed, leaving, look, look_coming, parked_for, pass, pass_body, pass_came, pass_kept, so_far, turn, turn_answer, turn_answer_head, turn_body, turn_head, turn_judged, turn_response, turn_returned, turn_taken_answer, turn_taken_body, turn_taken_given, turn_taken_head, turn_taken_returned, turn_taken_whole, turn_whole_answer}
 use Rattle.px_exchange.specs.Finds.{or_leaves, look_head, look_judged, look_body, look_answer, look_answer_head, look_returned, is_relayed}
 use Rattle.px_exchange.specs.Texts.{meets_expectation, interim_command, interim_commands}
 use Rattle.px_exchange.specs.Dials.{dial_owes}
 use Rattle.px_exchange.specs.Flows.{response_of, with_answer, with_body, with_returned}
 use Rattle.px_exchange.specs.Endings.{shut_server, shut_client, shut_all, shut_unless, without_response, killed_message, closed_message, ends_early, ends_by_fault, refuses, finished, connection_goes_on}
-use Rattle.px_chain.specs.Left.{stage_left}
+use Rattle.px_chain.specs.Left.{stage_left, doing_left}
 use Rattle.px_chain.proofs.Quiet.{AllQuiet, LooksQuiet, IsOf, any_flow, no_flow, id_in, SameFlow, IsBehind, Leads}
 use Rattle.px_exchange.specs.Replies.{taken_at_request_body, taken_at_request_head, taken_at_response_body, taken_at_response_head}
 use Rattle.px_exchange.specs.declared.place.Place.{Place}
 use Rattle.px_exchange.specs.Requests.{is_head, expects, flow_of, judged}
-use Rattle.px_chain.specs.Stages.{At, Stage, idle, busy, next, over, request_body, connection, response_head, response_body, given_head, given_body, upgraded, place_of, unparked}
+use Rattle.px_chain.specs.Stages.{At, Stage, idle, busy, coming_down, next, over, request_body, connection, response_head, response_body, given_head, given_body, upgraded, place_of, unparked, Doing, Sent}
 use Rattle.px_chain.specs.Sights.{Sight, answers_in, request_in, server_in, server_parked}
+use Rattle.px_chain.specs.Coming.{Came, allowed_by, came_in, finished_coming, goes_on_behind, streaming, streams_in}
+use Rattle.px_write.specs.Error.{fault_message}
 
 -- ---- lists
 
@@ -60,7 +62,8 @@ so_far_quiet names (idle at) seen = tt
 so_far_quiet names (busy at flow (request_body given)) seen = tt
 so_far_quiet names (busy at flow connection) seen = tt
 so_far_quiet names (busy at flow (response_head side how)) seen = interim_quiet names flow.request _
-so_far_quiet names (busy at flow (response_body side how)) seen = tt
+so_far_quiet names (busy at flow (response_body side how most)) seen = tt
+so_far_quiet names (busy at flow (coming_down side how)) seen = (tt, tt)
 so_far_quiet names (busy at flow (upgraded side)) seen = tt
 so_far_quiet names (busy at flow given_head) seen = tt
 so_far_quiet names (busy at flow given_body) seen = tt
@@ -143,14 +146,23 @@ module _ (names : FlowId → Type 0) where
     returned_quiet flow (bad_head fault) moment used closed is = tt
     returned_quiet flow (bad_body fault head body) moment used closed is = fault_quiet flow fault moment used closed is
 
+    coming_quiet : (flow : Flow) (item : Item ReadResponse) (moment : ℕ) (used : Used) (closed : Bool) → names flow.id → LooksQuiet names (look_coming flow item moment used closed)
+    coming_quiet flow missing moment used closed is = tt
+    coming_quiet flow (part head body) moment used closed is = tt
+    coming_quiet flow (complete head body trailers size) moment used closed is = tt
+    coming_quiet flow (bad_head fault) moment used closed is = tt
+    coming_quiet flow (bad_body fault head body) moment used closed is = early_quiet flow (fault_message fault) moment used closed is
+
     finds_quiet : (stage : Stage) (seen : Sight) → IsOf terms names stage → LooksQuiet names (find terms stage seen)
     finds_quiet (idle at) seen is = head_quiet at.flow (request_in seen) seen.now (server_parked at.parked seen) seen.closed is
     finds_quiet (busy at flow (request_body given)) seen is = body_quiet flow (request_in seen) seen.now (server_parked at.parked seen) seen.closed is
     finds_quiet (busy at flow connection) seen is = tt
     finds_quiet (busy at flow (response_head side how)) seen is =
         answer_quiet flow (answers_in flow.request seen).final seen.now (server_in side seen) seen.closed is
-    finds_quiet (busy at flow (response_body side how)) seen is =
+    finds_quiet (busy at flow (response_body side how most)) seen is =
         returned_quiet flow (answers_in flow.request seen).final seen.now (server_in side seen) seen.closed is
+    finds_quiet (busy at flow (coming_down side how)) seen is =
+        coming_quiet flow (answers_in flow.request seen).final seen.now (server_in side seen) seen.closed is
     finds_quiet (busy at flow (upgraded side)) seen is = tt
     finds_quiet (busy at flow given_head) seen is = (is, refl)
     finds_quiet (busy at flow given_body) seen is = (is, refl)
@@ -162,7 +174,8 @@ module _ (names : FlowId → Type 0) where
     leaving_quiet (busy at flow (request_body given)) seen is = early_quiet flow closed_message seen.now (server_parked at.parked seen) true is
     leaving_quiet (busy at flow connection) seen is = tt
     leaving_quiet (busy at flow (response_head side how)) seen is = early_quiet flow closed_message seen.now (server_in side seen) true is
-    leaving_quiet (busy at flow (response_body side how)) seen is = early_quiet (without_response flow) closed_message seen.now (server_in side seen) true is
+    leaving_quiet (busy at flow (response_body side how most)) seen is = early_quiet (without_response flow) closed_message seen.now (server_in side seen) true is
+    leaving_quiet (busy at flow (coming_down side how)) seen is = early_quiet flow closed_message seen.now (server_in side seen) true is
     leaving_quiet (busy at flow (upgraded side)) seen is = tt
     leaving_quiet (busy at flow given_head) seen is = tt
     leaving_quiet (busy at flow given_body) seen is = tt
@@ -244,19 +257,19 @@ module _ (names : FlowId → Type 0) where
       dial_led at flow reply.Kill moment closed at_flow more is = over_led [] tt
       dial_led at flow reply.Discard moment closed at_flow more is = over_led [] tt
 
-      taken_answer_led : (at : At) (flow : Flow) (side : ℕ) (taken : Taken Response) (moment : ℕ) (used : Used) (closed : Bool) → SameFlow flow_now dials at → 1 < count → names flow.id →
-          Led (turn_taken_answer at flow side taken moment used closed)
-      taken_answer_led at flow side (GoesOn message) moment used closed at_flow more is = record { quiet = tt; is_of = is; ends_none = tt; behind = (at_flow, more) }
-      taken_answer_led at flow side (Responds response) moment used closed at_flow more is = killed_led (without_response flow) moment used closed is
-      taken_answer_led at flow side Kills moment used closed at_flow more is = killed_led (without_response flow) moment used closed is
+      taken_answer_led : (at : At) (flow : Flow) (side : ℕ) (most : Option ℕ) (taken : Taken Response) (moment : ℕ) (used : Used) (closed : Bool) →
+          SameFlow flow_now dials at → 1 < count → names flow.id → Led (turn_taken_answer at flow side most taken moment used closed)
+      taken_answer_led at flow side most (GoesOn message) moment used closed at_flow more is = record { quiet = tt; is_of = is; ends_none = tt; behind = (at_flow, more) }
+      taken_answer_led at flow side most (Responds response) moment used closed at_flow more is = killed_led (without_response flow) moment used closed is
+      taken_answer_led at flow side most Kills moment used closed at_flow more is = killed_led (without_response flow) moment used closed is
 
       answer_head_led : (at : At) (flow : Flow) (side : ℕ) (head : ReadResponse) (seen : Sight) (answer : Timed Reply) → SameFlow flow_now dials at → 1 < count → names flow.id →
-          Led (turn_answer_head at flow side head seen answer)
+          Led (turn_answer_head terms at flow side head seen answer)
       answer_head_led at flow side head seen answer at_flow more is =
-          taken_answer_led at (with_answer flow (response_of head) seen.now) side (taken_at_response_head (response_of head) answer.value) answer.moment (server_in side seen) seen.closed at_flow more is
+          taken_answer_led at (with_answer flow (response_of head) seen.now) side (allowed_by terms.streams answer.value) (taken_at_response_head (response_of head) answer.value) answer.moment (server_in side seen) seen.closed at_flow more is
 
       answer_led : (at : At) (flow : Flow) (side : ℕ) (item : Item ReadResponse) (seen : Sight) (answer : Timed Reply) → SameFlow flow_now dials at → 1 < count → names flow.id →
-          Led (turn_answer at flow side item seen answer)
+          Led (turn_answer terms at flow side item seen answer)
       answer_led at flow side missing seen answer at_flow more is = over_led [] tt
       answer_led at flow side (part head body) seen answer at_flow more is = answer_head_led at flow side head seen answer at_flow more is
       answer_led at flow side (complete head body trailers size) seen answer at_flow more is = answer_head_led at flow side head seen answer at_flow more is
@@ -321,6 +334,32 @@ module _ (names : FlowId → Type 0) where
       returned_led at flow side (bad_head fault) seen answer at_flow more is = over_led [] tt
       returned_led at flow side (bad_body fault head body) seen answer at_flow more is = over_led [] tt
 
+      -- a streamed response that is whole
+      came_led : (at : At) (flow : Flow) (side : ℕ) (how : Sent) (seen : Sight) (came : Option Came) → SameFlow flow_now dials at → 0 < count → names flow.id →
+          Led (pass_came at flow side how seen came)
+      came_led at flow side how seen None at_flow more is = record { quiet = tt; is_of = is; ends_none = tt; behind = (at_flow, more) }
+      came_led at flow side how seen (Some came) at_flow more is =
+          let stays : Bool = goes_on_behind at.flow flow.request came in
+          finish_led (unparked at) (finished_coming flow seen (server_in side seen) ++ shut_unless stays NoServer seen.closed) stays
+          (λ on. ltb-true (at.flow + 1) 1000000 (last_true _ (nat_lt (at.flow + 1) 1000000) on))
+          (all_quiet names (finished_coming flow seen (server_in side seen)) (shut_unless stays NoServer seen.closed) (tt, (is, server_quiet (server_in side seen)))
+          (unless_quiet stays NoServer seen.closed)) at_flow
+
+      kept_led : (streams : Bool) (at : At) (flow : Flow) (side : ℕ) (how : Sent) (most : Option ℕ) (seen : Sight) → SameFlow flow_now dials at → 1 < count → names flow.id →
+          Led (pass_kept streams at flow side how most seen)
+      kept_led true at flow side how most seen at_flow more is = came_led at (streaming flow) side how seen (came_in (streaming flow) seen) at_flow (omega arith) is
+      kept_led false at flow side how most seen at_flow more is = record { quiet = tt; is_of = is; ends_none = tt; behind = (at_flow, more) }
+
+      -- a request that is whole, or is not
+      pass_body_led : (at : At) (flow : Flow) (given : Option Response) (item : Item ReadRequest) (now : ℕ) → SameFlow flow_now dials at → 4 < count → names flow.id →
+          Led (goes_to (pass_body at flow given item now))
+      pass_body_led at flow None item now at_flow more is = record { quiet = tt; is_of = is; ends_none = tt; behind = (at_flow, more) }
+      pass_body_led at flow (Some response) missing now at_flow more is = record { quiet = tt; is_of = is; ends_none = tt; behind = (at_flow, more) }
+      pass_body_led at flow (Some response) (part head body) now at_flow more is = record { quiet = tt; is_of = is; ends_none = tt; behind = (at_flow, more) }
+      pass_body_led at flow (Some response) (complete head body trailers used) now at_flow more is = record { quiet = tt; is_of = is; ends_none = tt; behind = (at_flow, omega arith) }
+      pass_body_led at flow (Some response) (bad_head fault) now at_flow more is = record { quiet = tt; is_of = is; ends_none = tt; behind = (at_flow, more) }
+      pass_body_led at flow (Some response) (bad_body fault head body) now at_flow more is = record { quiet = tt; is_of = is; ends_none = tt; behind = (at_flow, more) }
+
       given_led : (at : At) (flow : Flow) (taken : Taken Response) (moment : ℕ) (parked : Used) (closed : Bool) → SameFlow flow_now dials at → 1 < count → names flow.id →
           Led (turn_taken_given at flow taken moment parked closed)
       given_led at flow (GoesOn message) moment parked closed at_flow more is = record { quiet = tt; is_of = is; ends_none = tt; behind = (at_flow, more) }
@@ -342,9 +381,10 @@ turn_led terms names (busy at flow connection) seen answer goes is =
     dial_led names terms at.flow at.dials 3 at flow answer.value answer.moment seen.closed (refl, omega arith) (omega arith) is
 turn_led terms names (busy at flow (response_head side how)) seen answer goes is =
     answer_led names terms at.flow at.dials 2 at flow side (answers_in flow.request seen).final seen answer (refl, omega arith) (omega arith) is
-turn_led terms names (busy at flow (response_body side how)) seen answer goes is =
+turn_led terms names (busy at flow (response_body side how most)) seen answer goes is =
     returned_led names terms at.flow at.dials 1 at flow side (answers_in flow.request seen).final seen answer
     (refl, omega arith) (omega arith) is
+turn_led terms names (busy at flow (coming_down side how)) seen answer goes is = over_led names terms at.flow at.dials 0 [] tt
 turn_led terms names (busy at flow (upgraded side)) seen answer goes is = over_led names terms at.flow at.dials 0 [] tt
 turn_led terms names (busy at flow given_head) seen answer goes is =
     let asked_flow : Flow = given_at flow seen.now in
@@ -380,36 +420,44 @@ behind_quiet names (idle at) seen = tt
 behind_quiet names (busy at flow (request_body given)) seen = tt
 behind_quiet names (busy at flow connection) seen = server_quiet names (server_parked at.parked seen)
 behind_quiet names (busy at flow (response_head side how)) seen = tt
-behind_quiet names (busy at flow (response_body side how)) seen = tt
+behind_quiet names (busy at flow (response_body side how most)) seen = tt
+behind_quiet names (busy at flow (coming_down side how)) seen = tt
 behind_quiet names (busy at flow (upgraded side)) seen = tt
 behind_quiet names (busy at flow given_head) seen = tt
 behind_quiet names (busy at flow given_body) seen = tt
 behind_quiet names (next at) seen = tt
 behind_quiet names over seen = tt
 
--- passing stays with the flow
-pass_of_by : (terms : Terms) (names : FlowId → Type 0) (at : At) (flow : Flow) (given : Option Response) (item : Item ReadRequest) (now : ℕ) → names flow.id →
-    IsOf terms names (pass_body at flow given item now)
-pass_of_by terms names at flow None item now is = is
-pass_of_by terms names at flow (Some response) missing now is = is
-pass_of_by terms names at flow (Some response) (part head body) now is = is
-pass_of_by terms names at flow (Some response) (complete head body trailers used) now is = is
-pass_of_by terms names at flow (Some response) (bad_head fault) now is = is
-pass_of_by terms names at flow (Some response) (bad_body fault head body) now is = is
+-- A flow that passes asks nothing at once, and leads on: to where it can ask no more than before.
+pub pass_led : (terms : Terms) (names : FlowId → Type 0) (at : At) (flow : Flow) (doing : Doing) (seen : Sight) → names flow.id →
+    Leads terms names at.flow at.dials (doing_left doing + 1) (pass (busy at flow doing) seen)
+pass_led terms names at flow (request_body given) seen is =
+    pass_body_led names terms at.flow at.dials 5 at flow given (request_in seen) seen.now (refl, omega arith) (omega arith) is
+pass_led terms names at flow connection seen is = record { quiet = tt; is_of = is; ends_none = tt; behind = ((refl, omega arith), omega arith) }
+pass_led terms names at flow (response_head side how) seen is = record { quiet = tt; is_of = is; ends_none = tt; behind = ((refl, omega arith), omega arith) }
+pass_led terms names at flow (response_body side how most) seen is =
+    kept_led names terms at.flow at.dials 2 (streams_in flow most seen) at flow side how most seen (refl, omega arith) (omega arith) is
+pass_led terms names at flow (coming_down side how) seen is =
+    came_led names terms at.flow at.dials 1 at flow side how seen (came_in flow seen) (refl, omega arith) (omega arith) is
+pass_led terms names at flow (upgraded side) seen is = record { quiet = tt; is_of = is; ends_none = tt; behind = ((refl, omega arith), omega arith) }
+pass_led terms names at flow given_head seen is = record { quiet = tt; is_of = is; ends_none = tt; behind = ((refl, omega arith), omega arith) }
+pass_led terms names at flow given_body seen is = record { quiet = tt; is_of = is; ends_none = tt; behind = ((refl, omega arith), omega arith) }
 
-pub pass_of : (terms : Terms) (names : FlowId → Type 0) (stage : Stage) (seen : Sight) → IsOf terms names stage → IsOf terms names (pass stage seen)
+-- passing stays with the flow
+pub pass_of : (terms : Terms) (names : FlowId → Type 0) (stage : Stage) (seen : Sight) → IsOf terms names stage → IsOf terms names (pass stage seen).stage
 pass_of terms names (idle at) seen is = is
-pass_of terms names (busy at flow (request_body given)) seen is = pass_of_by terms names at flow given (request_in seen) seen.now is
-pass_of terms names (busy at flow connection) seen is = is
-pass_of terms names (busy at flow (response_head side how)) seen is = is
-pass_of terms names (busy at flow (response_body side how)) seen is = is
-pass_of terms names (busy at flow (upgraded side)) seen is = is
-pass_of terms names (busy at flow given_head) seen is = is
-pass_of terms names (busy at flow given_body) seen is = is
+pass_of terms names (busy at flow doing) seen is = (pass_led terms names at flow doing seen is).is_of
 pass_of terms names (next at) seen is = is
 pass_of terms names over seen is = is
 
--- and where it leads
+-- asks nothing, and ends no flow but its own
+pub pass_quiet : (terms : Terms) (names : FlowId → Type 0) (stage : Stage) (seen : Sight) → IsOf terms names stage → AllQuiet names (pass stage seen).owed
+pass_quiet terms names (idle at) seen is = tt
+pass_quiet terms names (busy at flow doing) seen is = (pass_led terms names at flow doing seen is).quiet
+pass_quiet terms names (next at) seen is = tt
+pass_quiet terms names over seen is = tt
+
+-- where a reply leads
 pub turn_behind : (terms : Terms) (stage : Stage) (seen : Sight) (answer : Timed Reply) → IsGoing stage →
     IsBehind (place_of stage).flow (place_of stage).dials (stage_left stage) (turn terms stage seen answer).stage
 turn_behind terms stage seen answer goes = (turn_led terms any_flow stage seen answer goes (is_any terms stage)).behind

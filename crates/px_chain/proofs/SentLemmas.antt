@@ -28,14 +28,15 @@ use Rattle.px_exchange.specs.Flows.{with_body}
 use Rattle.px_exchange.specs.Places.{form_at, is_same_address, server_for}
 use Rattle.px_exchange.specs.Replies.{taken_at_request_body}
 use Rattle.px_exchange.specs.Texts.{onward_text}
-use Rattle.px_chain.specs.Chain.{IsOnward, begin, dial_leads, goes_on_by, http_chain, is_alone, is_sequence, parked_for, pass, pass_body, sequence, side_if, turn, turn_body, turn_taken_body}
+use Rattle.px_chain.specs.Chain.{IsOnward, begin, dial_leads, goes_on_by, http_chain, is_alone, is_sequence, parked_for, pass, pass_body, sequence, side_if, turn, turn_body, turn_taken_body, behind_flow, pass_came, pass_kept}
 use Rattle.px_chain.specs.Sent.{GoesToParked, IsRequestText, IsSentOnce, nothing, one_request}
 use Rattle.px_chain.specs.Sights.{Sight, Standing, request_in, server_parked, sight_over}
 use Rattle.px_chain.specs.Silent.{ParkedBelow, connects}
-use Rattle.px_chain.specs.Stages.{At, Parked, Stage, busy, connection, given_body, given_head, idle, next, over, request_body, response_body, response_head, side_parked, upgraded}
+use Rattle.px_chain.specs.Stages.{At, Parked, Stage, busy, coming_down, connection, given_body, given_head, idle, next, over, request_body, response_body, response_head, side_parked, upgraded, Sent, unparked}
 use Rattle.px_chain.proofs.CountedLemmas.{IsSilent}
 use Rattle.px_chain.proofs.OnceLemmas.{IsOnce, SaysOnce, SpeaksOnce, nothing as never_said, one_text, says_nothing, says_text, sent_to, spoken_once}
-use Rattle.px_chain.proofs.SilentLemmas.{AreBelow, IsBetween, IsParkedFrom, ServersBelow, SideBelow, behind_silent, beyond_by, dialled, early_silent, fault_silent, for_below, http_counts, looks_silent, none_parked, parked_at, parked_below, same_parked, so_far_silent, turn_leads, turns_counted}
+use Rattle.px_chain.proofs.SilentLemmas.{AreBelow, IsBetween, IsParkedFrom, ServersBelow, SideBelow, behind_silent, beyond_by, dialled, early_silent, fault_silent, for_below, http_counts, looks_silent, none_parked, parked_at, parked_below, same_parked, so_far_silent, turn_leads, turns_counted, pass_silent}
+use Rattle.px_chain.specs.Coming.{Came, came_in, goes_on_behind, streaming, streams_in}
 
 -- ---- what is so of the number of dials of a stage, and of the side that is parked there; at the end it counts for nothing
 
@@ -54,17 +55,33 @@ module _ (holds : ℕ → Option Parked → Type 0) where
   body_passed at flow (Some response) (bad_head fault) now is = is
   body_passed at flow (Some response) (bad_body fault head body) now is = is
 
-  at_passed : (stage : Stage) (seen : Sight) → IsAt holds stage → IsAt holds (pass stage seen)
-  at_passed (idle at) seen is = is
-  at_passed (busy at flow (request_body given)) seen is = body_passed at flow given (request_in seen) seen.now is
-  at_passed (busy at flow connection) seen is = is
-  at_passed (busy at flow (response_head side how)) seen is = is
-  at_passed (busy at flow (response_body side how)) seen is = is
-  at_passed (busy at flow (upgraded side)) seen is = is
-  at_passed (busy at flow given_head) seen is = is
-  at_passed (busy at flow given_body) seen is = is
-  at_passed (next at) seen is = is
-  at_passed over seen is = tt
+  -- where a side is closed none is parked
+  module _ (closes : (dials : ℕ) (parked : Option Parked) → holds dials parked → holds dials None) where
+    behind_passed : (stays : Bool) (at : At) → holds at.dials at.parked → IsAt holds (behind_flow stays (unparked at))
+    behind_passed true at is = closes at.dials at.parked is
+    behind_passed false at is = tt
+
+    came_passed : (at : At) (flow : Flow) (side : ℕ) (how : Sent) (seen : Sight) (came : Option Came) → holds at.dials at.parked → IsAt holds (pass_came at flow side how seen came).stage
+    came_passed at flow side how seen None is = is
+    came_passed at flow side how seen (Some came) is = behind_passed (goes_on_behind at.flow flow.request came) at is
+
+    kept_passed : (streams : Bool) (at : At) (flow : Flow) (side : ℕ) (how : Sent) (most : Option ℕ) (seen : Sight) → holds at.dials at.parked →
+        IsAt holds (pass_kept streams at flow side how most seen).stage
+    kept_passed true at flow side how most seen is = came_passed at (streaming flow) side how seen (came_in (streaming flow) seen) is
+    kept_passed false at flow side how most seen is = is
+
+    at_passed : (stage : Stage) (seen : Sight) → IsAt holds stage → IsAt holds (pass stage seen).stage
+    at_passed (idle at) seen is = is
+    at_passed (busy at flow (request_body given)) seen is = body_passed at flow given (request_in seen) seen.now is
+    at_passed (busy at flow connection) seen is = is
+    at_passed (busy at flow (response_head side how)) seen is = is
+    at_passed (busy at flow (response_body side how most)) seen is = kept_passed (streams_in flow most seen) at flow side how most seen is
+    at_passed (busy at flow (coming_down side how)) seen is = came_passed at flow side how seen (came_in flow seen) is
+    at_passed (busy at flow (upgraded side)) seen is = is
+    at_passed (busy at flow given_head) seen is = is
+    at_passed (busy at flow given_body) seen is = is
+    at_passed (next at) seen is = is
+    at_passed over seen is = tt
 
   at_sequence : (stage : Stage) → IsAt holds stage → IsAt holds (sequence stage)
   at_sequence (idle at) is = is
@@ -216,7 +233,8 @@ module _ (server : ℕ) (terms : Terms) where
   turn_says (busy at flow (request_body given)) seen answer below = body_says at flow given (request_in seen) seen answer below
   turn_says (busy at flow connection) seen answer below = dial_says at flow answer.value answer.moment seen.closed
   turn_says (busy at flow (response_head side how)) seen answer below = silent (turn_leads server terms (busy at flow (response_head side how)) seen answer below tt).0
-  turn_says (busy at flow (response_body side how)) seen answer below = silent (turn_leads server terms (busy at flow (response_body side how)) seen answer below tt).0
+  turn_says (busy at flow (response_body side how most)) seen answer below = silent (turn_leads server terms (busy at flow (response_body side how most)) seen answer below tt).0
+  turn_says (busy at flow (coming_down side how)) seen answer below = silent refl
   turn_says (busy at flow (upgraded side)) seen answer below = silent refl
   turn_says (busy at flow given_head) seen answer below = silent (turn_leads server terms (busy at flow given_head) seen answer below tt).0
   turn_says (busy at flow given_body) seen answer below = silent (turn_leads server terms (busy at flow given_body) seen answer below tt).0
@@ -305,14 +323,22 @@ module _ (onward : Stage → Stage) (goes : IsOnward onward) (terms : Terms) (fi
     says_once (by_parked at flow given request from there text led) = parked_once at flow given request from there text led
 
   later_passed : (place : Standing) (prefix : List (Timed Event)) → IsLater first least place → IsLater first least (chain.pass place prefix).stage
-  later_passed place prefix is = record {
-    below = ((http_counts onward goes terms).passes place prefix is.below).stays;
-    later = at_passed (IsSince first least) place.stage (sight_over place prefix) is.later;
-  }
+  later_passed place prefix is =
+      let seen : Sight = sight_over place prefix in
+      record {
+        below = ((http_counts onward goes terms).passes place prefix is.below).stays;
+        later = at_onward (IsSince first least) onward goes (pass place.stage seen).stage
+            (at_passed (IsSince first least) (λ dials parked since. (since.0, none_parked refl)) place.stage seen is.later);
+      }
+
+  used_passed : (place : Standing) (prefix : List (Timed Event)) → IsUsedUp server place → IsUsedUp server (chain.pass place prefix).stage
+  used_passed place prefix used =
+      let seen : Sight = sight_over place prefix in
+      at_onward (IsBehind server) onward goes (pass place.stage seen).stage (at_passed (IsBehind server) (λ dials parked behind. (behind.0, tt)) place.stage seen used)
 
   speaks : SpeaksOnce chain (IsLater first least) (IsUsedUp server) IsText server
   speaks = record {
-    passes = λ place prefix is. (refl, later_passed place prefix is, λ used. at_passed (IsBehind server) place.stage (sight_over place prefix) used);
+    passes = λ place prefix is. (pass_silent server place.stage (sight_over place prefix), later_passed place prefix is, used_passed place prefix);
     looks = λ place prefix is. looks_silent server terms place.stage (sight_over place prefix);
     waits = λ place prefix is. so_far_silent server place.stage (sight_over place prefix);
     behind = λ place prefix is. behind_silent server place.stage (sight_over place prefix);

@@ -27,13 +27,14 @@ use Rattle.px_exchange.specs.Places.{is_same_address, server_for}
 use Rattle.px_exchange.specs.Flows.{response_of, with_answer, with_body, with_returned}
 use Rattle.px_exchange.specs.Replies.{taken_at_request_head, taken_at_request_body, taken_at_response_head, taken_at_response_body}
 use Rattle.px_exchange.specs.Requests.{expects, flow_of, judged}
-use Rattle.px_chain.specs.Chain.{IsOnward, behind_flow, dial_leads, finish_by, given_at, goes_on_by, is_alone, is_sequence, opened_by, parked_for, pass, pass_body, passed, sequence, side_if, sight_past, stands, turn, turn_answer, turn_answer_head, turn_body, turn_given_head, turn_head, turn_judged, turn_response, turn_returned, turn_taken_answer, turn_taken_body, turn_taken_given, turn_taken_head, turn_taken_returned, turn_taken_whole, turn_whole_answer, used_by_pass}
+use Rattle.px_chain.specs.Chain.{IsOnward, behind_flow, dial_leads, finish_by, given_at, goes_on_by, is_alone, is_sequence, opened_by, parked_for, pass, pass_body, pass_came, pass_kept, passed, past_came, past_kept, sequence, side_if, sight_past, stands, turn, turn_answer, turn_answer_head, turn_body, turn_given_head, turn_head, turn_judged, turn_response, turn_returned, turn_taken_answer, turn_taken_body, turn_taken_given, turn_taken_head, turn_taken_returned, turn_taken_whole, turn_whole_answer, used_by_came, used_by_kept, used_by_pass}
 use Rattle.px_chain.specs.Sights.{IsWithin, Sight, Standing, UsedBytes, answers_in, bytes_over, client_left, dials_at, left_by, request_in, server_behind, server_in, server_left, server_parked, server_used, server_with, shut_behind, shut_over, shut_with, sight_behind, sight_over, sight_with, used_behind}
-use Rattle.px_chain.specs.Stages.{At, Parked, Stage, busy, connection, given_body, given_head, idle, next, over, request_body, response_body, response_head, side_of, side_parked, unparked, upgraded}
+use Rattle.px_chain.specs.Stages.{At, Parked, Stage, busy, coming_down, connection, given_body, given_head, idle, next, over, request_body, response_body, response_head, side_of, side_parked, unparked, upgraded, Sent}
 use Rattle.px_event.specs.Sides.{piece_of}
 use Rattle.px_chain.specs.Streams.{bytes_of, client_closed, is_closed}
 use Rattle.px_chain.proofs.FrontLaws.{bytes_grow, bytes_more, bytes_shut, closed_more, now_here, now_more, open_behind}
 use Rattle.px_chain.proofs.UsedLaws.{client_drop, client_within, left_drop, request_within, server_drop, server_within}
+use Rattle.px_chain.specs.Coming.{Came, allowed_by, came_in, goes_on_behind, streaming, streams_in}
 
 abbrev make : List ℕ → Bool → List ℕ → Bool → ℕ → Sight
 make client closed server shut now = record { client = client; closed = closed; server = server; shut = shut; now = now }
@@ -105,6 +106,17 @@ within_more place prefix e within = record {
 
 -- ---- where it passes
 
+sequence_side : (stage : Stage) → side_of (sequence stage) ≡ side_of stage
+sequence_side (idle at) = refl
+sequence_side (busy at flow doing) = refl
+sequence_side (next at) = refl
+sequence_side over = refl
+
+-- the next flow begins with the same side
+pub side_onward : (onward : Stage → Stage) → IsOnward onward → (stage : Stage) → side_of (onward stage) ≡ side_of stage
+side_onward onward (is_alone is) stage = ap (λ f. side_of (f stage)) is
+side_onward onward (is_sequence is) stage = ap (λ f. side_of (f stage)) is ∙ sequence_side stage
+
 body_side : (at : At) (flow : Flow) (given : Option Response) (item : Item ReadRequest) (now : ℕ) → side_of (pass_body at flow given item now) ≡ side_parked at.parked
 body_side at flow None item now = refl
 body_side at flow (Some response) missing now = refl
@@ -113,18 +125,51 @@ body_side at flow (Some response) (complete head body trailers used) now = refl
 body_side at flow (Some response) (bad_head fault) now = refl
 body_side at flow (Some response) (bad_body fault head body) now = refl
 
--- passing keeps the server's side
-pub side_passed : (stage : Stage) (seen : Sight) → side_of (pass stage seen) ≡ side_of stage
-side_passed (idle at) seen = refl
-side_passed (busy at flow (request_body given)) seen = body_side at flow given (request_in seen) seen.now
-side_passed (busy at flow connection) seen = refl
-side_passed (busy at flow (response_head side how)) seen = refl
-side_passed (busy at flow (response_body side how)) seen = refl
-side_passed (busy at flow (upgraded side)) seen = refl
-side_passed (busy at flow given_head) seen = refl
-side_passed (busy at flow given_body) seen = refl
-side_passed (next at) seen = refl
-side_passed over seen = refl
+-- Where it passes the same side of a server is open, of which nothing is used so; or none is open any more, and nothing is seen of one.
+pub data SidePassed (before : Option ℕ) (seen : Sight) (to : Stage) (used : UsedBytes → UsedBytes) (past : Sight) : Type 0 where
+  same_side : side_of to ≡ before → ((had : UsedBytes) → (used had).server ≡ had.server) → past.server ≡ seen.server → past.shut ≡ seen.shut →
+      SidePassed before seen to used past
+  side_closed : side_of to ≡ None → ((had : UsedBytes) → (used had).server ≡ 0) → past.server ≡ [] → past.shut ≡ false → SidePassed before seen to used past
+
+-- behind its own side a flow leaves none
+none_behind : (stays : Bool) (at : At) → side_of (behind_flow stays (unparked at)) ≡ None
+none_behind true at = refl
+none_behind false at = refl
+
+came_side : (at : At) (flow : Flow) (side : ℕ) (how : Sent) (seen : Sight) (came : Option Came) →
+    SidePassed (Some side) seen (pass_came at flow side how seen came).stage (used_by_came came) (past_came came seen)
+came_side at flow side how seen None = same_side refl (λ had. refl) refl refl
+came_side at flow side how seen (Some came) = side_closed (none_behind (goes_on_behind at.flow flow.request came) at) (λ had. refl) refl refl
+
+kept_side : (streams : Bool) (at : At) (flow : Flow) (side : ℕ) (how : Sent) (most : Option ℕ) (seen : Sight) →
+    SidePassed (Some side) seen (pass_kept streams at flow side how most seen).stage (used_by_kept streams (came_in (streaming flow) seen))
+    (past_kept streams (came_in (streaming flow) seen) seen)
+kept_side true at flow side how most seen = came_side at (streaming flow) side how seen (came_in (streaming flow) seen)
+kept_side false at flow side how most seen = same_side refl (λ had. refl) refl refl
+
+pub side_passed : (stage : Stage) (seen : Sight) → SidePassed (side_of stage) seen (pass stage seen).stage (used_by_pass stage seen) (sight_past stage seen)
+side_passed (idle at) seen = same_side refl (λ had. refl) refl refl
+side_passed (busy at flow (request_body None)) seen = same_side refl (λ had. refl) refl refl
+side_passed (busy at flow (request_body (Some response))) seen = same_side (body_side at flow (Some response) (request_in seen) seen.now) (λ had. refl) refl refl
+side_passed (busy at flow connection) seen = same_side refl (λ had. refl) refl refl
+side_passed (busy at flow (response_head side how)) seen = same_side refl (λ had. refl) refl refl
+side_passed (busy at flow (response_body side how most)) seen = kept_side (streams_in flow most seen) at flow side how most seen
+side_passed (busy at flow (coming_down side how)) seen = came_side at flow side how seen (came_in flow seen)
+side_passed (busy at flow (upgraded side)) seen = same_side refl (λ had. refl) refl refl
+side_passed (busy at flow given_head) seen = same_side refl (λ had. refl) refl refl
+side_passed (busy at flow given_body) seen = same_side refl (λ had. refl) refl refl
+side_passed (next at) seen = same_side refl (λ had. refl) refl refl
+side_passed over seen = same_side refl (λ had. refl) refl refl
+
+-- nothing of the client is used behind a request
+came_client : (came : Option Came) (seen : Sight) (used : UsedBytes) → ((used_by_came came used).client ≡ used.client) × ((past_came came seen).client ≡ seen.client)
+came_client None seen used = (refl, refl)
+came_client (Some came) seen used = (refl, refl)
+
+kept_client : (streams : Bool) (came : Option Came) (seen : Sight) (used : UsedBytes) →
+    ((used_by_kept streams came used).client ≡ used.client) × ((past_kept streams came seen).client ≡ seen.client)
+kept_client true came seen used = came_client came seen used
+kept_client false came seen used = (refl, refl)
 
 -- what it uses is what it leaves behind
 past_drop : (stage : Stage) (seen : Sight) (used : UsedBytes) (bytes : List ℕ) → seen.client ≡ drop used.client bytes →
@@ -135,52 +180,91 @@ past_drop (busy at flow (request_body (Some response))) seen used bytes is =
     sym (ap (left_by (request_in seen)) is ∙ left_drop (request_in seen) used.client bytes)
 past_drop (busy at flow connection) seen used bytes is = sym is
 past_drop (busy at flow (response_head side how)) seen used bytes is = sym is
-past_drop (busy at flow (response_body side how)) seen used bytes is = sym is
+past_drop (busy at flow (response_body side how most)) seen used bytes is =
+    let same = kept_client (streams_in flow most seen) (came_in (streaming flow) seen) seen used in
+    ap (λ n. drop n bytes) same.0 ∙ (sym is ∙ sym same.1)
+past_drop (busy at flow (coming_down side how)) seen used bytes is =
+    let same = came_client (came_in flow seen) seen used in
+    ap (λ n. drop n bytes) same.0 ∙ (sym is ∙ sym same.1)
 past_drop (busy at flow (upgraded side)) seen used bytes is = sym is
 past_drop (busy at flow given_head) seen used bytes is = sym is
 past_drop (busy at flow given_body) seen used bytes is = sym is
 past_drop (next at) seen used bytes is = sym is
 past_drop over seen used bytes is = sym is
 
--- nothing of a server is used so
-past_server : (stage : Stage) (seen : Sight) (used : UsedBytes) → (used_by_pass stage seen used).server ≡ used.server
-past_server (idle at) seen used = refl
-past_server (busy at flow (request_body None)) seen used = refl
-past_server (busy at flow (request_body (Some response))) seen used = refl
-past_server (busy at flow connection) seen used = refl
-past_server (busy at flow (response_head side how)) seen used = refl
-past_server (busy at flow (response_body side how)) seen used = refl
-past_server (busy at flow (upgraded side)) seen used = refl
-past_server (busy at flow given_head) seen used = refl
-past_server (busy at flow given_body) seen used = refl
-past_server (next at) seen used = refl
-past_server over seen used = refl
+-- the sight that is left, by the bytes of both sides and the server's close
+came_past : (came : Option Came) (seen : Sight) →
+    past_came came seen ≡ make (past_came came seen).client seen.closed (past_came came seen).server (past_came came seen).shut seen.now
+came_past None seen = refl
+came_past (Some came) seen = refl
 
--- the sight that is left, by the client's bytes
-past_by : (stage : Stage) (seen : Sight) → sight_past stage seen ≡ make (sight_past stage seen).client seen.closed seen.server seen.shut seen.now
+kept_past : (streams : Bool) (came : Option Came) (seen : Sight) →
+    past_kept streams came seen ≡ make (past_kept streams came seen).client seen.closed (past_kept streams came seen).server (past_kept streams came seen).shut seen.now
+kept_past true came seen = came_past came seen
+kept_past false came seen = refl
+
+past_by : (stage : Stage) (seen : Sight) →
+    sight_past stage seen ≡ make (sight_past stage seen).client seen.closed (sight_past stage seen).server (sight_past stage seen).shut seen.now
 past_by (idle at) seen = refl
 past_by (busy at flow (request_body None)) seen = refl
 past_by (busy at flow (request_body (Some response))) seen = refl
 past_by (busy at flow connection) seen = refl
 past_by (busy at flow (response_head side how)) seen = refl
-past_by (busy at flow (response_body side how)) seen = refl
+past_by (busy at flow (response_body side how most)) seen = kept_past (streams_in flow most seen) (came_in (streaming flow) seen) seen
+past_by (busy at flow (coming_down side how)) seen = came_past (came_in flow seen) seen
 past_by (busy at flow (upgraded side)) seen = refl
 past_by (busy at flow given_head) seen = refl
 past_by (busy at flow given_body) seen = refl
 past_by (next at) seen = refl
 past_by over seen = refl
 
--- Of the sight the bytes are left that it did not use.
-pub sight_passed : (place : Standing) (prefix : List (Timed Event)) →
-    sight_over (passed place (sight_over place prefix)) prefix ≡ sight_past place.stage (sight_over place prefix)
-sight_passed place prefix =
+-- What is seen of the server's side where it passed, to a stage with this side: its bytes, its close, and that what is used of it came.
+record SideLeft (side : Option ℕ) (opened : ℕ) (used : UsedBytes) (past : Sight) (prefix : List (Timed Event)) (fits : Type 0) : Type 0 where
+  bytes : drop used.server (bytes_over side opened prefix) ≡ past.server
+  shut : shut_over side opened prefix ≡ past.shut
+  within : fits → used.server ≤ length (bytes_over side opened prefix)
+
+side_left : (place : Standing) (prefix : List (Timed Event)) (side : Option ℕ) (to : Stage) (used : UsedBytes → UsedBytes) (past : Sight) →
+    SidePassed (side_of place.stage) (sight_over place prefix) to used past → side ≡ side_of to →
+    SideLeft side place.opened (used place.used) past prefix (place.used.server ≤ length (bytes_over (side_of place.stage) place.opened prefix))
+side_left place prefix side to used past (same_side is had bytes shut) at =
+    let same : side ≡ side_of place.stage = at ∙ is in
+    record {
+      bytes = ap (λ n. drop n (bytes_over side place.opened prefix)) (had place.used)
+          ∙ (ap (λ s. drop place.used.server (bytes_over s place.opened prefix)) same ∙ sym bytes);
+      shut = ap (λ s. shut_over s place.opened prefix) same ∙ sym shut;
+      within = λ fits. subst (λ n. n ≤ length (bytes_over side place.opened prefix)) (sym (had place.used))
+          (subst (λ s. place.used.server ≤ length (bytes_over s place.opened prefix)) (sym same) fits);
+    }
+side_left place prefix side to used past (side_closed is had bytes shut) at =
+    let same : side ≡ None = at ∙ is in
+    record {
+      bytes = ap (λ n. drop n (bytes_over side place.opened prefix)) (had place.used)
+          ∙ (ap (λ s. bytes_over s place.opened prefix) same ∙ sym bytes);
+      shut = ap (λ s. shut_over s place.opened prefix) same ∙ sym shut;
+      within = λ fits. subst (λ n. n ≤ length (bytes_over side place.opened prefix)) (sym (had place.used)) (omega arith);
+    }
+
+left_passed : (onward : Stage → Stage) → IsOnward onward → (place : Standing) (prefix : List (Timed Event)) →
     let seen : Sight = sight_over place prefix in
+    SideLeft (side_of (passed onward place seen).stage) place.opened (used_by_pass place.stage seen place.used) (sight_past place.stage seen) prefix
+    (place.used.server ≤ length (bytes_over (side_of place.stage) place.opened prefix))
+left_passed onward goes place prefix =
+    let seen : Sight = sight_over place prefix in
+    let to : Stage = (pass place.stage seen).stage in
+    side_left place prefix (side_of (onward to)) to (used_by_pass place.stage seen) (sight_past place.stage seen) (side_passed place.stage seen) (side_onward onward goes to)
+
+-- Of the sight the bytes are left that it did not use.
+pub sight_passed : (onward : Stage → Stage) → IsOnward onward → (place : Standing) (prefix : List (Timed Event)) →
+    sight_over (passed onward place (sight_over place prefix)) prefix ≡ sight_past place.stage (sight_over place prefix)
+sight_passed onward goes place prefix =
+    let seen : Sight = sight_over place prefix in
+    let side = left_passed onward goes place prefix in
     make_eq _ _ _ _ _ _ _ _ _ _
     (past_drop place.stage seen place.used (bytes_of Client prefix) refl)
     refl
-    (ap (λ n. drop n (bytes_over (side_of (pass place.stage seen)) place.opened prefix)) (past_server place.stage seen place.used)
-    ∙ ap (λ s. drop place.used.server (bytes_over s place.opened prefix)) (side_passed place.stage seen))
-    (ap (λ s. shut_over s place.opened prefix) (side_passed place.stage seen))
+    side.bytes
+    side.shut
     refl
     ∙ sym (past_by place.stage seen)
 
@@ -191,23 +275,24 @@ past_within (busy at flow (request_body None)) seen used bytes is within = withi
 past_within (busy at flow (request_body (Some response))) seen used bytes is within = request_within seen used.client bytes is within
 past_within (busy at flow connection) seen used bytes is within = within
 past_within (busy at flow (response_head side how)) seen used bytes is within = within
-past_within (busy at flow (response_body side how)) seen used bytes is within = within
+past_within (busy at flow (response_body side how most)) seen used bytes is within =
+    let same = (kept_client (streams_in flow most seen) (came_in (streaming flow) seen) seen used).0 in omega arith
+past_within (busy at flow (coming_down side how)) seen used bytes is within = let same = (came_client (came_in flow seen) seen used).0 in omega arith
 past_within (busy at flow (upgraded side)) seen used bytes is within = within
 past_within (busy at flow given_head) seen used bytes is within = within
 past_within (busy at flow given_body) seen used bytes is within = within
 past_within (next at) seen used bytes is within = within
 past_within over seen used bytes is within = within
 
-pub within_passed : (place : Standing) (prefix : List (Timed Event)) → IsWithin place prefix → IsWithin (passed place (sight_over place prefix)) prefix
-within_passed place prefix within =
+pub within_passed : (onward : Stage → Stage) → IsOnward onward → (place : Standing) (prefix : List (Timed Event)) → IsWithin place prefix →
+    IsWithin (passed onward place (sight_over place prefix)) prefix
+within_passed onward goes place prefix within =
     let seen : Sight = sight_over place prefix in
-    let Holds : ℕ → Option ℕ → Type 0 = (λ n side. n ≤ length (bytes_over side place.opened prefix)) in
     record {
       since = within.since;
       opened = within.opened;
       client = past_within place.stage seen place.used (bytes_of Client prefix) refl within.client;
-      server = subst (λ n. Holds n (side_of (pass place.stage seen))) (sym (past_server place.stage seen place.used))
-          (subst (λ side. Holds place.used.server side) (sym (side_passed place.stage seen)) within.server);
+      server = (left_passed onward goes place prefix).within within.server;
     }
 
 -- ---- behind a reply
@@ -347,24 +432,24 @@ turned_body_side place at flow (complete head body trailers used) seen answer =
 turned_body_side place at flow (bad_head fault) seen answer = left refl
 turned_body_side place at flow (bad_body fault head body) seen answer = left refl
 
-taken_answer_side : (at : At) (flow : Flow) (side : ℕ) (taken : Taken Response) (moment : ℕ) (used : Used) (closed : Bool) →
-    IsKept (Some side) (side_of (turn_taken_answer at flow side taken moment used closed).stage)
-taken_answer_side at flow side (GoesOn response) moment used closed = kept refl
-taken_answer_side at flow side (Responds response) moment used closed = left refl
-taken_answer_side at flow side Kills moment used closed = left refl
+taken_answer_side : (at : At) (flow : Flow) (side : ℕ) (most : Option ℕ) (taken : Taken Response) (moment : ℕ) (used : Used) (closed : Bool) →
+    IsKept (Some side) (side_of (turn_taken_answer at flow side most taken moment used closed).stage)
+taken_answer_side at flow side most (GoesOn response) moment used closed = kept refl
+taken_answer_side at flow side most (Responds response) moment used closed = left refl
+taken_answer_side at flow side most Kills moment used closed = left refl
 
-answer_head_side : (at : At) (flow : Flow) (side : ℕ) (head : ReadResponse) (seen : Sight) (answer : Timed Reply) →
-    IsKept (Some side) (side_of (turn_answer_head at flow side head seen answer).stage)
-answer_head_side at flow side head seen answer =
-    taken_answer_side at (with_answer flow (response_of head) seen.now) side (taken_at_response_head (response_of head) answer.value) answer.moment (server_in side seen) seen.closed
+answer_head_side : (terms : Terms) (at : At) (flow : Flow) (side : ℕ) (head : ReadResponse) (seen : Sight) (answer : Timed Reply) →
+    IsKept (Some side) (side_of (turn_answer_head terms at flow side head seen answer).stage)
+answer_head_side terms at flow side head seen answer =
+    taken_answer_side at (with_answer flow (response_of head) seen.now) side (allowed_by terms.streams answer.value) (taken_at_response_head (response_of head) answer.value) answer.moment (server_in side seen) seen.closed
 
-answer_side : (at : At) (flow : Flow) (side : ℕ) (item : Item ReadResponse) (seen : Sight) (answer : Timed Reply) →
-    IsKept (Some side) (side_of (turn_answer at flow side item seen answer).stage)
-answer_side at flow side missing seen answer = left refl
-answer_side at flow side (part head body) seen answer = answer_head_side at flow side head seen answer
-answer_side at flow side (complete head body trailers size) seen answer = answer_head_side at flow side head seen answer
-answer_side at flow side (bad_head fault) seen answer = left refl
-answer_side at flow side (bad_body fault head body) seen answer = answer_head_side at flow side head seen answer
+answer_side : (terms : Terms) (at : At) (flow : Flow) (side : ℕ) (item : Item ReadResponse) (seen : Sight) (answer : Timed Reply) →
+    IsKept (Some side) (side_of (turn_answer terms at flow side item seen answer).stage)
+answer_side terms at flow side missing seen answer = left refl
+answer_side terms at flow side (part head body) seen answer = answer_head_side terms at flow side head seen answer
+answer_side terms at flow side (complete head body trailers size) seen answer = answer_head_side terms at flow side head seen answer
+answer_side terms at flow side (bad_head fault) seen answer = left refl
+answer_side terms at flow side (bad_body fault head body) seen answer = answer_head_side terms at flow side head seen answer
 
 behind_side : (stays : Bool) (at : At) → IsKept (side_parked at.parked) (side_of (behind_flow stays at))
 behind_side true at = kept refl
@@ -387,11 +472,6 @@ whole_side at flow answer parked closed =
     response_side (side_parked at.parked) flow.response (λ response. taken_at_response_body response answer.value)
     (λ taken. turn_taken_returned at flow taken answer.moment parked closed)
     (λ taken. taken_returned_side at flow taken answer.moment parked closed)
-
--- behind its own side a flow leaves none
-none_behind : (stays : Bool) (at : At) → side_of (behind_flow stays (unparked at)) ≡ None
-none_behind true at = refl
-none_behind false at = refl
 
 finish_side : (switches : Bool) (at : At) (flow : Flow) (response : Response) (side : ℕ) (used : Used) (closed : Bool) →
     IsKept (Some side) (side_of (finish_by switches at flow response side used closed).stage)
@@ -452,10 +532,11 @@ side_turned terms (busy at flow (request_body given)) seen answer =
     kept_from (busy at flow (request_body given)) (side_parked at.parked) _ refl refl (turned_body_side terms.place at flow (request_in seen) seen answer)
 side_turned terms (busy at flow connection) seen answer = dial_side terms.place at flow answer.value
 side_turned terms (busy at flow (response_head side how)) seen answer =
-    kept_from (busy at flow (response_head side how)) (Some side) _ refl refl (answer_side at flow side (answers_in flow.request seen).final seen answer)
-side_turned terms (busy at flow (response_body side how)) seen answer =
-    kept_from (busy at flow (response_body side how)) (Some side) _ refl refl
+    kept_from (busy at flow (response_head side how)) (Some side) _ refl refl (answer_side terms at flow side (answers_in flow.request seen).final seen answer)
+side_turned terms (busy at flow (response_body side how most)) seen answer =
+    kept_from (busy at flow (response_body side how most)) (Some side) _ refl refl
     (returned_side at flow side (answers_in flow.request seen).final seen answer)
+side_turned terms (busy at flow (coming_down side how)) seen answer = no_side refl
 side_turned terms (busy at flow (upgraded side)) seen answer = no_side refl
 side_turned terms (busy at flow given_head) seen answer =
     kept_from (busy at flow given_head) (side_parked at.parked) _ refl refl (given_side at (given_at flow seen.now) answer (server_parked at.parked seen) seen.closed)
@@ -463,17 +544,6 @@ side_turned terms (busy at flow given_body) seen answer =
     kept_from (busy at flow given_body) (side_parked at.parked) _ refl refl (whole_side at flow answer (server_parked at.parked seen) seen.closed)
 side_turned terms (next at) seen answer = kept_from (next at) (side_parked at.parked) _ refl refl (kept refl)
 side_turned terms over seen answer = no_side refl
-
-sequence_side : (stage : Stage) → side_of (sequence stage) ≡ side_of stage
-sequence_side (idle at) = refl
-sequence_side (busy at flow doing) = refl
-sequence_side (next at) = refl
-sequence_side over = refl
-
--- the next flow begins with the same side
-pub side_onward : (onward : Stage → Stage) → IsOnward onward → (stage : Stage) → side_of (onward stage) ≡ side_of stage
-side_onward onward (is_alone is) stage = ap (λ f. side_of (f stage)) is
-side_onward onward (is_sequence is) stage = ap (λ f. side_of (f stage)) is ∙ sequence_side stage
 
 -- and sees the same behind a reply
 pub behind_onward : (onward : Stage → Stage) → IsOnward onward → (from : Stage) (seen : Sight) (moment : ℕ) (to : Stage) →

@@ -39,12 +39,14 @@ use Rattle.px_exchange.specs.Places.{is_same_address, server_for}
 use Rattle.px_exchange.specs.Replies.{taken_at_request_body, taken_at_request_head, taken_at_response_body, taken_at_response_head}
 use Rattle.px_exchange.specs.Requests.{is_head, expects, flow_of, judged}
 use Rattle.px_exchange.specs.Texts.{meets_expectation, interim_command, interim_commands}
-use Rattle.px_chain.specs.Chain.{IsOnward, begin, behind, behind_flow, dial_leads, find, finish, finish_by, given_at, goes_on_by, http_chain, is_alone, is_sequence, killed, leaving, look, parked_for, pass, pass_body, passed, sequence, side_if, so_far, turn, turn_answer, turn_answer_head, turn_body, turn_head, turn_judged, turn_response, turn_returned, turn_taken_answer, turn_taken_body, turn_taken_given, turn_taken_head, turn_taken_returned, turn_taken_whole, turn_whole_answer}
+use Rattle.px_chain.specs.Chain.{IsOnward, begin, behind, behind_flow, dial_leads, find, finish, finish_by, given_at, goes_on_by, http_chain, is_alone, is_sequence, killed, leaving, look, look_coming, parked_for, pass, pass_body, pass_came, pass_kept, passed, sequence, side_if, so_far, turn, turn_answer, turn_answer_head, turn_body, turn_head, turn_judged, turn_response, turn_returned, turn_taken_answer, turn_taken_body, turn_taken_given, turn_taken_head, turn_taken_returned, turn_taken_whole, turn_whole_answer}
 use Rattle.px_chain.specs.Silent.{NoAnswer, ParkedBelow, connects, connections}
 use Rattle.px_chain.specs.Sights.{Sight, Standing, answers_in, request_in, server_in, server_parked, sight_over}
-use Rattle.px_chain.specs.Stages.{At, Parked, Stage, busy, connection, given_body, given_head, idle, next, over, place_of, request_body, response_body, response_head, side_in, side_of, side_parked, unparked, upgraded}
+use Rattle.px_chain.specs.Stages.{At, Parked, Stage, busy, coming_down, connection, given_body, given_head, idle, next, over, place_of, request_body, response_body, response_head, side_in, side_of, side_parked, unparked, upgraded, Sent}
 use Rattle.px_chain.proofs.CountedLemmas.{Counts, CountsServers, IsSilent, counted_from, counted_silent, silent_both}
-use Rattle.px_chain.proofs.SightLaws.{side_onward, side_passed}
+use Rattle.px_chain.proofs.SightLaws.{side_onward}
+use Rattle.px_chain.specs.Coming.{Came, allowed_by, came_in, goes_on_behind, streaming, streams_in}
+use Rattle.px_write.specs.Error.{fault_message}
 
 -- how many servers were dialled before the stage's flow dials
 abbrev pub dialled : Stage → ℕ
@@ -94,7 +96,8 @@ beyond_by server answer (idle at) before = tt
 beyond_by server answer (busy at flow (request_body given)) before = omega arith
 beyond_by server answer (busy at flow connection) before = before
 beyond_by server answer (busy at flow (response_head side how)) before = tt
-beyond_by server answer (busy at flow (response_body side how)) before = tt
+beyond_by server answer (busy at flow (response_body side how most)) before = tt
+beyond_by server answer (busy at flow (coming_down side how)) before = tt
 beyond_by server answer (busy at flow (upgraded side)) before = tt
 beyond_by server answer (busy at flow given_head) before = tt
 beyond_by server answer (busy at flow given_body) before = tt
@@ -166,7 +169,8 @@ module _ (server : ℕ) where
   so_far_silent (busy at flow (request_body given)) seen = refl
   so_far_silent (busy at flow connection) seen = refl
   so_far_silent (busy at flow (response_head side how)) seen = interim_by flow.request.version flow.request _ refl
-  so_far_silent (busy at flow (response_body side how)) seen = refl
+  so_far_silent (busy at flow (response_body side how most)) seen = refl
+  so_far_silent (busy at flow (coming_down side how)) seen = refl
   so_far_silent (busy at flow (upgraded side)) seen = refl
   so_far_silent (busy at flow given_head) seen = refl
   so_far_silent (busy at flow given_body) seen = refl
@@ -180,12 +184,38 @@ module _ (server : ℕ) where
   behind_silent (busy at flow (request_body given)) seen = refl
   behind_silent (busy at flow connection) seen = server_silent (server_parked at.parked seen)
   behind_silent (busy at flow (response_head side how)) seen = refl
-  behind_silent (busy at flow (response_body side how)) seen = refl
+  behind_silent (busy at flow (response_body side how most)) seen = refl
+  behind_silent (busy at flow (coming_down side how)) seen = refl
   behind_silent (busy at flow (upgraded side)) seen = refl
   behind_silent (busy at flow given_head) seen = refl
   behind_silent (busy at flow given_body) seen = refl
   behind_silent (next at) seen = refl
   behind_silent over seen = refl
+
+  -- ---- where it passes
+
+  came_silent : (at : At) (flow : Flow) (side : ℕ) (how : Sent) (seen : Sight) (came : Option Came) → IsSilent server (pass_came at flow side how seen came).owed
+  came_silent at flow side how seen None = refl
+  came_silent at flow side how seen (Some came) =
+      let stays : Bool = goes_on_behind at.flow flow.request came in
+      silent_both server (shut_server (server_in side seen)) (shut_unless stays NoServer seen.closed) (server_silent (server_in side seen)) (unless_silent stays NoServer seen.closed)
+
+  kept_silent : (streams : Bool) (at : At) (flow : Flow) (side : ℕ) (how : Sent) (most : Option ℕ) (seen : Sight) → IsSilent server (pass_kept streams at flow side how most seen).owed
+  kept_silent true at flow side how most seen = came_silent at (streaming flow) side how seen (came_in (streaming flow) seen)
+  kept_silent false at flow side how most seen = refl
+
+  pub pass_silent : (stage : Stage) (seen : Sight) → IsSilent server (pass stage seen).owed
+  pass_silent (idle at) seen = refl
+  pass_silent (busy at flow (request_body given)) seen = refl
+  pass_silent (busy at flow connection) seen = refl
+  pass_silent (busy at flow (response_head side how)) seen = refl
+  pass_silent (busy at flow (response_body side how most)) seen = kept_silent (streams_in flow most seen) at flow side how most seen
+  pass_silent (busy at flow (coming_down side how)) seen = came_silent at flow side how seen (came_in flow seen)
+  pass_silent (busy at flow (upgraded side)) seen = refl
+  pass_silent (busy at flow given_head) seen = refl
+  pass_silent (busy at flow given_body) seen = refl
+  pass_silent (next at) seen = refl
+  pass_silent over seen = refl
 
   -- ---- what is found
 
@@ -228,14 +258,23 @@ module _ (server : ℕ) where
     returned_silent flow (bad_head fault) moment used closed = refl
     returned_silent flow (bad_body fault head body) moment used closed = fault_silent flow fault moment used closed
 
+    coming_silent : (flow : Flow) (item : Item ReadResponse) (moment : ℕ) (used : Used) (closed : Bool) → IsSilent server (found (look_coming flow item moment used closed))
+    coming_silent flow missing moment used closed = refl
+    coming_silent flow (part head body) moment used closed = refl
+    coming_silent flow (complete head body trailers size) moment used closed = refl
+    coming_silent flow (bad_head fault) moment used closed = refl
+    coming_silent flow (bad_body fault head body) moment used closed = early_silent flow (fault_message fault) moment used closed
+
     finds_silent : (stage : Stage) (seen : Sight) → IsSilent server (found (find terms stage seen))
     finds_silent (idle at) seen = head_silent at.flow (request_in seen) seen.now (server_parked at.parked seen) seen.closed
     finds_silent (busy at flow (request_body given)) seen = body_silent flow (request_in seen) seen.now (server_parked at.parked seen) seen.closed
     finds_silent (busy at flow connection) seen = refl
     finds_silent (busy at flow (response_head side how)) seen =
         answer_silent flow (answers_in flow.request seen).final seen.now (server_in side seen) seen.closed
-    finds_silent (busy at flow (response_body side how)) seen =
+    finds_silent (busy at flow (response_body side how most)) seen =
         returned_silent flow (answers_in flow.request seen).final seen.now (server_in side seen) seen.closed
+    finds_silent (busy at flow (coming_down side how)) seen =
+        coming_silent flow (answers_in flow.request seen).final seen.now (server_in side seen) seen.closed
     finds_silent (busy at flow (upgraded side)) seen = refl
     finds_silent (busy at flow given_head) seen = refl
     finds_silent (busy at flow given_body) seen = refl
@@ -247,7 +286,8 @@ module _ (server : ℕ) where
     leaving_silent (busy at flow (request_body given)) seen = early_silent flow closed_message seen.now (server_parked at.parked seen) true
     leaving_silent (busy at flow connection) seen = refl
     leaving_silent (busy at flow (response_head side how)) seen = early_silent flow closed_message seen.now (server_in side seen) true
-    leaving_silent (busy at flow (response_body side how)) seen = early_silent (without_response flow) closed_message seen.now (server_in side seen) true
+    leaving_silent (busy at flow (response_body side how most)) seen = early_silent (without_response flow) closed_message seen.now (server_in side seen) true
+    leaving_silent (busy at flow (coming_down side how)) seen = early_silent flow closed_message seen.now (server_in side seen) true
     leaving_silent (busy at flow (upgraded side)) seen = refl
     leaving_silent (busy at flow given_head) seen = refl
     leaving_silent (busy at flow given_body) seen = refl
@@ -340,19 +380,19 @@ module _ (server : ℕ) where
       body_leads place at flow (bad_head fault) seen answer stays before = over_leads [] refl
       body_leads place at flow (bad_body fault head body) seen answer stays before = over_leads [] refl
 
-      taken_answer_leads : (at : At) (flow : Flow) (side : ℕ) (taken : Taken Response) (moment : ℕ) (used : Used) (closed : Bool) → Few at → side < at.dials →
-          Leads was least most (turn_taken_answer at flow side taken moment used closed)
-      taken_answer_leads at flow side (GoesOn message) moment used closed few below = (refl, (few, below))
-      taken_answer_leads at flow side (Responds response) moment used closed few below = killed_leads (without_response flow) moment used closed
-      taken_answer_leads at flow side Kills moment used closed few below = killed_leads (without_response flow) moment used closed
+      taken_answer_leads : (at : At) (flow : Flow) (side : ℕ) (allowed : Option ℕ) (taken : Taken Response) (moment : ℕ) (used : Used) (closed : Bool) → Few at → side < at.dials →
+          Leads was least most (turn_taken_answer at flow side allowed taken moment used closed)
+      taken_answer_leads at flow side allowed (GoesOn message) moment used closed few below = (refl, (few, below))
+      taken_answer_leads at flow side allowed (Responds response) moment used closed few below = killed_leads (without_response flow) moment used closed
+      taken_answer_leads at flow side allowed Kills moment used closed few below = killed_leads (without_response flow) moment used closed
 
       answer_head_leads : (at : At) (flow : Flow) (side : ℕ) (head : ReadResponse) (seen : Sight) (answer : Timed Reply) → Few at → side < at.dials →
-          Leads was least most (turn_answer_head at flow side head seen answer)
+          Leads was least most (turn_answer_head terms at flow side head seen answer)
       answer_head_leads at flow side head seen answer few below =
-          taken_answer_leads at (with_answer flow (response_of head) seen.now) side (taken_at_response_head (response_of head) answer.value) answer.moment (server_in side seen) seen.closed few below
+          taken_answer_leads at (with_answer flow (response_of head) seen.now) side (allowed_by terms.streams answer.value) (taken_at_response_head (response_of head) answer.value) answer.moment (server_in side seen) seen.closed few below
 
       answer_leads : (at : At) (flow : Flow) (side : ℕ) (item : Item ReadResponse) (seen : Sight) (answer : Timed Reply) → Few at → side < at.dials →
-          Leads was least most (turn_answer at flow side item seen answer)
+          Leads was least most (turn_answer terms at flow side item seen answer)
       answer_leads at flow side missing seen answer few below = over_leads [] refl
       answer_leads at flow side (part head body) seen answer few below = answer_head_leads at flow side head seen answer few below
       answer_leads at flow side (complete head body trailers size) seen answer few below = answer_head_leads at flow side head seen answer few below
@@ -434,9 +474,10 @@ module _ (server : ℕ) where
         connected_leads at.parked at.dials (at.dials + connects answer.value) at flow answer.value answer.moment seen.closed before (omega arith) (omega arith)
     turn_leads (busy at flow (response_head side how)) seen answer below before =
         answer_leads at.parked at.dials (at.dials + connects answer.value) at flow side (answers_in flow.request seen).final seen answer (omega arith, omega arith, same_parked refl) below
-    turn_leads (busy at flow (response_body side how)) seen answer below before =
+    turn_leads (busy at flow (response_body side how most)) seen answer below before =
         returned_leads at.parked at.dials (at.dials + connects answer.value) at flow side (answers_in flow.request seen).final seen answer
         (omega arith, omega arith, same_parked refl) below
+    turn_leads (busy at flow (coming_down side how)) seen answer below before = over_leads at.parked at.dials (at.dials + connects answer.value) [] refl
     turn_leads (busy at flow (upgraded side)) seen answer below before = over_leads at.parked at.dials (at.dials + connects answer.value) [] refl
     turn_leads (busy at flow given_head) seen answer below before =
         let asked_flow : Flow = given_at flow seen.now in
@@ -452,25 +493,47 @@ module _ (server : ℕ) where
 
 -- ---- passing, and the next flow
 
-passes_by : (at : At) (flow : Flow) (given : Option Response) (item : Item ReadRequest) (now : ℕ) → dialled (pass_body at flow given item now) ≡ at.dials
-passes_by at flow None item now = refl
-passes_by at flow (Some response) missing now = refl
-passes_by at flow (Some response) (part head body) now = refl
-passes_by at flow (Some response) (complete head body trailers used) now = refl
-passes_by at flow (Some response) (bad_head fault) now = refl
-passes_by at flow (Some response) (bad_body fault head body) now = refl
+-- where a flow passes no more servers were dialled, and the one whose side is open is among them
+record PassesBelow (at : At) (side : Option ℕ) (to : Stage) : Type 0 where
+  few : dialled to ≤ at.dials
+  below : SideBelow side at.dials → ServersBelow to
 
-pub passes_same : (stage : Stage) (seen : Sight) → dialled (pass stage seen) ≡ dialled stage
-passes_same (idle at) seen = refl
-passes_same (busy at flow (request_body given)) seen = passes_by at flow given (request_in seen) seen.now
-passes_same (busy at flow connection) seen = refl
-passes_same (busy at flow (response_head side how)) seen = refl
-passes_same (busy at flow (response_body side how)) seen = refl
-passes_same (busy at flow (upgraded side)) seen = refl
-passes_same (busy at flow given_head) seen = refl
-passes_same (busy at flow given_body) seen = refl
-passes_same (next at) seen = refl
-passes_same over seen = refl
+body_below : (at : At) (flow : Flow) (given : Option Response) (item : Item ReadRequest) (now : ℕ) → PassesBelow at (side_parked at.parked) (pass_body at flow given item now)
+body_below at flow None item now = record { few = omega arith; below = λ is. is }
+body_below at flow (Some response) missing now = record { few = omega arith; below = λ is. is }
+body_below at flow (Some response) (part head body) now = record { few = omega arith; below = λ is. is }
+body_below at flow (Some response) (complete head body trailers used) now = record { few = omega arith; below = λ is. is }
+body_below at flow (Some response) (bad_head fault) now = record { few = omega arith; below = λ is. is }
+body_below at flow (Some response) (bad_body fault head body) now = record { few = omega arith; below = λ is. is }
+
+behind_below : (stays : Bool) (at : At) (side : Option ℕ) → PassesBelow at side (behind_flow stays (unparked at))
+behind_below true at side = record { few = omega arith; below = λ is. tt }
+behind_below false at side = record { few = omega arith; below = λ is. tt }
+
+came_below : (at : At) (flow : Flow) (side : ℕ) (how : Sent) (seen : Sight) (came : Option Came) → PassesBelow at (Some side) (pass_came at flow side how seen came).stage
+came_below at flow side how seen None = record { few = omega arith; below = λ is. is }
+came_below at flow side how seen (Some came) = behind_below (goes_on_behind at.flow flow.request came) at (Some side)
+
+kept_below : (streams : Bool) (at : At) (flow : Flow) (side : ℕ) (how : Sent) (most : Option ℕ) (seen : Sight) → PassesBelow at (Some side) (pass_kept streams at flow side how most seen).stage
+kept_below true at flow side how most seen = came_below at (streaming flow) side how seen (came_in (streaming flow) seen)
+kept_below false at flow side how most seen = record { few = omega arith; below = λ is. is }
+
+passes_below : (stage : Stage) (seen : Sight) → PassesBelow (place_of stage) (side_of stage) (pass stage seen).stage
+passes_below (idle at) seen = record { few = omega arith; below = λ is. is }
+passes_below (busy at flow (request_body given)) seen = body_below at flow given (request_in seen) seen.now
+passes_below (busy at flow connection) seen = record { few = omega arith; below = λ is. is }
+passes_below (busy at flow (response_head side how)) seen = record { few = omega arith; below = λ is. is }
+passes_below (busy at flow (response_body side how most)) seen = kept_below (streams_in flow most seen) at flow side how most seen
+passes_below (busy at flow (coming_down side how)) seen = came_below at flow side how seen (came_in flow seen)
+passes_below (busy at flow (upgraded side)) seen = record { few = omega arith; below = λ is. is }
+passes_below (busy at flow given_head) seen = record { few = omega arith; below = λ is. is }
+passes_below (busy at flow given_body) seen = record { few = omega arith; below = λ is. is }
+passes_below (next at) seen = record { few = omega arith; below = λ is. is }
+passes_below over seen = record { few = omega arith; below = λ is. is }
+
+-- no more servers were dialled where it passes
+pub passes_few : (stage : Stage) (seen : Sight) → dialled (pass stage seen).stage ≤ dialled stage
+passes_few stage seen = (passes_below stage seen).few
 
 sequence_same : (stage : Stage) → dialled (sequence stage) ≡ dialled stage
 sequence_same (idle at) = refl
@@ -484,11 +547,7 @@ onward_same onward (is_sequence is) stage = ap (λ f. dialled (f stage)) is ∙ 
 
 -- ---- the counts of the chain
 
--- where it passes, the servers stay below
-below_passed : (stage : Stage) (seen : Sight) → ServersBelow stage → ServersBelow (pass stage seen)
-below_passed stage seen below = rw (side_passed stage seen, passes_same stage seen) below
-
--- and where the next flow begins
+-- where the next flow begins, the servers stay below
 below_onward : (onward : Stage → Stage) → IsOnward onward → (stage : Stage) → ServersBelow stage → ServersBelow (onward stage)
 below_onward onward goes stage below = rw (side_onward onward goes stage, onward_same onward goes stage) below
 
@@ -509,13 +568,17 @@ few_between was least most over between = omega arith
 abbrev pub dialled_at : Standing → ℕ
 dialled_at place = dialled place.stage
 
-passes_counted : (place : Standing) (seen : Sight) → AreBelow place →
-    Counts dialled_at AreBelow (dialled place.stage) (record { owed = []; stage = passed place seen })
-passes_counted place seen below = record {
-  silent = λ server more. refl;
-  few = (let same = passes_same place.stage seen in omega arith);
-  stays = below_passed place.stage seen below;
-}
+passes_counted : (onward : Stage → Stage) → IsOnward onward → (place : Standing) (seen : Sight) → AreBelow place →
+    Counts dialled_at AreBelow (dialled place.stage) (record { owed = (pass place.stage seen).owed; stage = passed onward place seen })
+passes_counted onward goes place seen below =
+    let to : Stage = (pass place.stage seen).stage in
+    let same = onward_same onward goes to in
+    let fewer = passes_few place.stage seen in
+    record {
+      silent = λ server more. pass_silent server place.stage seen;
+      few = omega arith;
+      stays = below_onward onward goes to ((passes_below place.stage seen).below below);
+    }
 
 pub turns_counted : (onward : Stage → Stage) → IsOnward onward → (terms : Terms) (place : Standing) (prefix : List (Timed Event)) (answer : Timed Reply) → AreBelow place →
     Counts dialled_at AreBelow (dialled place.stage + connects answer.value) ((http_chain onward terms).turn place prefix answer)
@@ -535,7 +598,7 @@ turns_counted onward goes terms place prefix answer below =
 -- A conversation of HTTP, or one flow, sends to servers that were dialled and connected before, the one whose side is open among them.
 pub http_counts : (onward : Stage → Stage) → IsOnward onward → (terms : Terms) → CountsServers (http_chain onward terms) dialled_at AreBelow
 http_counts onward goes terms = record {
-  passes = λ place prefix below. passes_counted place (sight_over place prefix) below;
+  passes = λ place prefix below. passes_counted onward goes place (sight_over place prefix) below;
   looks = λ place prefix below server more. looks_silent server terms place.stage (sight_over place prefix);
   waits = λ place prefix below server more. so_far_silent server place.stage (sight_over place prefix);
   behind = λ place prefix below server more. behind_silent server place.stage (sight_over place prefix);
@@ -559,9 +622,14 @@ silent_from onward goes terms at alone first server moves none =
     counted_silent (http_chain onward terms) dialled_at AreBelow (http_counts onward goes terms) server (begin (idle at)) moves
     (parked_below at.parked at.dials (none_below at alone)) first none
 
--- Where no move was made nothing is due.
-pub nothing_yet : (onward : Stage → Stage) (terms : Terms) (at : At) → due_by (http_chain onward terms) (begin (idle at)) [] ≡ []
-nothing_yet onward terms at =
+nothing_found : (terms : Terms) (at : At) → found (or_leaves false (shut_server (server_parked at.parked (sight_over (begin (idle at)) [])))
+    (look_head terms at.flow (request_item []) 0 (server_parked at.parked (sight_over (begin (idle at)) [])) false)) ≡ []
+nothing_found terms at =
     let empty : request_item [] ≡ missing = refl in
     let used : Used = server_parked at.parked (sight_over (begin (idle at)) []) in
     ap (λ i. found (or_leaves false (shut_server used) (look_head terms at.flow i 0 used false))) empty
+
+-- Where no move was made nothing is due.
+pub nothing_yet : (onward : Stage → Stage) → IsOnward onward → (terms : Terms) (at : At) → due_by (http_chain onward terms) (begin (idle at)) [] ≡ []
+nothing_yet onward (is_alone is) terms at = rw is (nothing_found terms at)
+nothing_yet onward (is_sequence is) terms at = rw is (nothing_found terms at)

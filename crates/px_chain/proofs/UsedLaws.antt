@@ -7,7 +7,7 @@ use Rattle.px_read.proofs.ItemLemmas.{request_used}
 use Rattle.px_read.proofs.LawLemmas.{chunk_laws}
 use Rattle.px_exchange.specs.Requests.{is_head}
 use Rattle.px_chain.specs.Sights.{Sight, answers_in, client_left, client_used, left_by, request_in, server_left, server_used, used_with}
-use Rattle.px_chain.specs.Stages.{Stage, busy, connection, given_body, given_head, idle, next, over, request_body, response_body, response_head, upgraded}
+use Rattle.px_chain.specs.Stages.{Stage, busy, coming_down, connection, given_body, given_head, idle, next, over, request_body, response_body, response_head, upgraded}
 
 -- ---- what is left
 
@@ -24,7 +24,8 @@ client_drop (idle at) seen used bytes is = is
 client_drop (busy at flow (request_body given)) seen used bytes is = ap (left_by (request_in seen)) is ∙ left_drop (request_in seen) used bytes
 client_drop (busy at flow connection) seen used bytes is = is
 client_drop (busy at flow (response_head server sent)) seen used bytes is = is
-client_drop (busy at flow (response_body server sent)) seen used bytes is = is
+client_drop (busy at flow (response_body server sent most)) seen used bytes is = is
+client_drop (busy at flow (coming_down server sent)) seen used bytes is = is
 client_drop (busy at flow (upgraded server)) seen used bytes is = is
 client_drop (busy at flow given_head) seen used bytes is = is
 client_drop (busy at flow given_body) seen used bytes is = is
@@ -37,10 +38,11 @@ server_drop (idle at) seen used bytes is = is
 server_drop (busy at flow (request_body given)) seen used bytes is = is
 server_drop (busy at flow connection) seen used bytes is = is
 server_drop (busy at flow (response_head server sent)) seen used bytes is = is
-server_drop (busy at flow (response_body server sent)) seen used bytes is =
+server_drop (busy at flow (response_body server sent most)) seen used bytes is =
     let answers : Answers = answers_in flow.request seen in
     ap (λ l. left_by answers.final (drop answers.used l)) is
     ∙ (ap (λ l. left_by answers.final l) (drop-drop answers.used used bytes) ∙ left_drop answers.final (used + answers.used) bytes)
+server_drop (busy at flow (coming_down server sent)) seen used bytes is = is
 server_drop (busy at flow (upgraded server)) seen used bytes is = is
 server_drop (busy at flow given_head) seen used bytes is = is
 server_drop (busy at flow given_body) seen used bytes is = is
@@ -73,7 +75,8 @@ client_within (idle at) seen used bytes is within = within
 client_within (busy at flow (request_body given)) seen used bytes is within = request_within seen used bytes is within
 client_within (busy at flow connection) seen used bytes is within = within
 client_within (busy at flow (response_head server sent)) seen used bytes is within = within
-client_within (busy at flow (response_body server sent)) seen used bytes is within = within
+client_within (busy at flow (response_body server sent most)) seen used bytes is within = within
+client_within (busy at flow (coming_down server sent)) seen used bytes is within = within
 client_within (busy at flow (upgraded server)) seen used bytes is within = within
 client_within (busy at flow given_head) seen used bytes is within = within
 client_within (busy at flow given_body) seen used bytes is within = within
@@ -96,9 +99,10 @@ server_within (idle at) seen used bytes is within = within
 server_within (busy at flow (request_body given)) seen used bytes is within = within
 server_within (busy at flow connection) seen used bytes is within = within
 server_within (busy at flow (response_head server sent)) seen used bytes is within = within
-server_within (busy at flow (response_body server sent)) seen used bytes is within =
+server_within (busy at flow (response_body server sent most)) seen used bytes is within =
     answers_within seen.server (answers_in flow.request seen) used bytes
     (answers_used chunk_laws (length seen.server) (is_head flow.request.method) seen.shut seen.server) is within
+server_within (busy at flow (coming_down server sent)) seen used bytes is within = within
 server_within (busy at flow (upgraded server)) seen used bytes is within = within
 server_within (busy at flow given_head) seen used bytes is within = within
 server_within (busy at flow given_body) seen used bytes is within = within

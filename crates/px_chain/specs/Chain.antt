@@ -13,7 +13,7 @@ use Rattle.px_event.specs.declared.event.Event.{Event}
 use Rattle.px_event.specs.declared.side.Side.TheVariants.{Client}
 use Rattle.px_event.specs.declared.reply.Reply.{Reply}
 use Rattle.px_event.specs.declared.reply.Reply.TheVariants as reply
-use Rattle.px_event.specs.Chain.{Timed, Look, Asks, Ends, Turn, Chain}
+use Rattle.px_event.specs.Chain.{Timed, Look, NotYet, Asks, Ends, Turn, Chain}
 use Rattle.px_read.specs.Items.{Item, part, complete, bad_body}
 use Rattle.px_read.specs.declared.head.RequestHead.{RequestHead as ReadRequest}
 use Rattle.px_read.specs.declared.head.ResponseHead.{ResponseHead as ReadResponse}
@@ -29,13 +29,15 @@ use Rattle.px_exchange.specs.declared.place.Place.TheVariants as places
 use Rattle.px_exchange.specs.Dials.{connected_owes, dial_owes}
 use Rattle.px_exchange.specs.Endings.{without_response, killed_message, closed_message, ends_early, connection_goes_on, finished, shut_server, shut_unless}
 use Rattle.px_exchange.specs.Finds.{or_leaves, look_head, look_body, look_answer, look_returned}
+use Rattle.px_write.specs.Error.{fault_message}
 use Rattle.px_exchange.specs.Flows.{ask_of, with_body, response_of, with_answer, with_end, with_returned, with_start}
 use Rattle.px_exchange.specs.Places.{dialled_for, is_same_address, server_for}
 use Rattle.px_exchange.specs.Replies.{taken_at_request_head, taken_at_request_body, taken_at_response_head, taken_at_response_body}
 use Rattle.px_exchange.specs.Requests.{expects, flow_of, judged}
 use Rattle.px_exchange.specs.Texts.{interim_commands, meets_expectation, returned_text}
 use Rattle.px_chain.specs.Sights.{Sight, Standing, UsedBytes, answers_in, dials_at, left_by, request_in, server_in, server_parked, sight_over, used_by_turn, used_with}
-use Rattle.px_chain.specs.Stages.{At, Doing, Parked, Stage, all_sent, busy, connection, given_body, given_head, idle, next, over, request_body, response_body, response_head, unparked, upgraded}
+use Rattle.px_chain.specs.Coming.{Came, allowed_by, came_in, finished_coming, goes_on_behind, sends_coming, streaming, streams_in}
+use Rattle.px_chain.specs.Stages.{At, Doing, Parked, Sent, Stage, all_sent, busy, coming_down, connection, given_body, given_head, idle, next, over, request_body, response_body, response_head, unparked, upgraded}
 use Rattle.px_chain.specs.Streams.{from_here}
 
 -- ---- idle: a request's head
@@ -129,21 +131,21 @@ turn_dial place at flow answer closed =
 
 -- ---- the head of the final response
 
-abbrev pub turn_taken_answer : At → Flow → ℕ → Taken Response → ℕ → Used → Bool → Turn Stage Command
-turn_taken_answer at flow server (GoesOn response) moment used closed =
-    record { owed = []; stage = busy at (record flow { response = Some response }) (response_body server all_sent) }
-turn_taken_answer at flow server _ moment used closed = killed (without_response flow) moment used closed
+abbrev pub turn_taken_answer : At → Flow → ℕ → Option ℕ → Taken Response → ℕ → Used → Bool → Turn Stage Command
+turn_taken_answer at flow server most (GoesOn response) moment used closed =
+    record { owed = []; stage = busy at (record flow { response = Some response }) (response_body server all_sent most) }
+turn_taken_answer at flow server most _ moment used closed = killed (without_response flow) moment used closed
 
-abbrev pub turn_answer_head : At → Flow → ℕ → ReadResponse → Sight → Timed Reply → Turn Stage Command
-turn_answer_head at flow server head seen answer =
-    turn_taken_answer at (with_answer flow (response_of head) seen.now) server
+abbrev pub turn_answer_head : Terms → At → Flow → ℕ → ReadResponse → Sight → Timed Reply → Turn Stage Command
+turn_answer_head terms at flow server head seen answer =
+    turn_taken_answer at (with_answer flow (response_of head) seen.now) server (allowed_by terms.streams answer.value)
     (taken_at_response_head (response_of head) answer.value) answer.moment (server_in server seen) seen.closed
 
-abbrev pub turn_answer : At → Flow → ℕ → Item ReadResponse → Sight → Timed Reply → Turn Stage Command
-turn_answer at flow server (part head body) seen answer = turn_answer_head at flow server head seen answer
-turn_answer at flow server (complete head body trailers size) seen answer = turn_answer_head at flow server head seen answer
-turn_answer at flow server (bad_body fault head body) seen answer = turn_answer_head at flow server head seen answer
-turn_answer at flow server _ seen answer = stops
+abbrev pub turn_answer : Terms → At → Flow → ℕ → Item ReadResponse → Sight → Timed Reply → Turn Stage Command
+turn_answer terms at flow server (part head body) seen answer = turn_answer_head terms at flow server head seen answer
+turn_answer terms at flow server (complete head body trailers size) seen answer = turn_answer_head terms at flow server head seen answer
+turn_answer terms at flow server (bad_body fault head body) seen answer = turn_answer_head terms at flow server head seen answer
+turn_answer terms at flow server _ seen answer = stops
 
 -- ---- the response's body
 
@@ -216,33 +218,85 @@ turn_given_head at flow answer parked closed = turn_response flow.response
 
 -- ---- what a stage goes on to without a reply
 
-abbrev pub passes : At → Flow → Doing → Sight → Stage
-passes at flow (request_body given) seen = pass_body at flow given (request_in seen) seen.now
-passes at flow doing seen = busy at flow doing
+-- nothing is owed where it goes on
+abbrev pub goes_to : Stage → Turn Stage Command
+goes_to stage = record { owed = []; stage = stage }
 
-abbrev pub pass : Stage → Sight → Stage
+-- A streamed response. Where it is whole its flow is finished without a question: its text, the flow, and the closes of its server's
+-- side and, where its connection ends, of the client.
+abbrev pub pass_came : At → Flow → ℕ → Sent → Sight → Option Came → Turn Stage Command
+pass_came at flow server sent seen None = goes_to (busy at flow (coming_down server sent))
+pass_came at flow server sent seen (Some came) =
+    let stays = goes_on_behind at.flow flow.request came in record {
+      owed = finished_coming flow seen (server_in server seen) ++ shut_unless stays NoServer seen.closed;
+      stage = behind_flow stays (unparked at);
+    }
+
+abbrev pub pass_down : At → Flow → ℕ → Sent → Sight → Turn Stage Command
+pass_down at flow server sent seen = pass_came at flow server sent seen (came_in flow seen)
+
+-- one that is not streamed is kept until it is whole
+abbrev pub pass_kept : Bool → At → Flow → ℕ → Sent → Option ℕ → Sight → Turn Stage Command
+pass_kept true at flow server sent most seen = pass_down at (streaming flow) server sent seen
+pass_kept false at flow server sent most seen = goes_to (busy at flow (response_body server sent most))
+
+abbrev pub passes : At → Flow → Doing → Sight → Turn Stage Command
+passes at flow (request_body given) seen = goes_to (pass_body at flow given (request_in seen) seen.now)
+passes at flow (response_body server sent most) seen = pass_kept (streams_in flow most seen) at flow server sent most seen
+passes at flow (coming_down server sent) seen = pass_down at flow server sent seen
+passes at flow doing seen = goes_to (busy at flow doing)
+
+abbrev pub pass : Stage → Sight → Turn Stage Command
 pass (busy at flow doing) seen = passes at flow doing seen
-pass stage seen = stage
+pass stage seen = goes_to stage
 
--- what is used by that: the bytes of a whole request whose response is given
+-- What is used by that: the bytes of a whole request whose response is given; and of a server's side that is closed nothing counts
+-- any more.
+abbrev pub used_by_came : Option Came → UsedBytes → UsedBytes
+used_by_came None used = used
+used_by_came (Some came) used = record used { server = 0 }
+
+abbrev pub used_by_kept : Bool → Option Came → UsedBytes → UsedBytes
+used_by_kept true came used = used_by_came came used
+used_by_kept false came used = used
+
 abbrev pub used_by_pass : Stage → Sight → UsedBytes → UsedBytes
 used_by_pass (busy at flow (request_body (Some response))) seen used = record used { client = used_with (request_in seen) used.client }
+used_by_pass (busy at flow (response_body server sent most)) seen used = used_by_kept (streams_in flow most seen) (came_in (streaming flow) seen) used
+used_by_pass (busy at flow (coming_down server sent)) seen used = used_by_came (came_in flow seen) used
 used_by_pass stage seen used = used
 
 -- and what is left of the sight then
+abbrev pub past_came : Option Came → Sight → Sight
+past_came None seen = seen
+past_came (Some came) seen = record seen { server = []; shut = false }
+
+abbrev pub past_kept : Bool → Option Came → Sight → Sight
+past_kept true came seen = past_came came seen
+past_kept false came seen = seen
+
 abbrev pub sight_past : Stage → Sight → Sight
 sight_past (busy at flow (request_body (Some response))) seen = record seen { client = left_by (request_in seen) seen.client }
+sight_past (busy at flow (response_body server sent most)) seen = past_kept (streams_in flow most seen) (came_in (streaming flow) seen) seen
+sight_past (busy at flow (coming_down server sent)) seen = past_came (came_in flow seen) seen
 sight_past stage seen = seen
 
 -- ---- what it finds, but for the client's close
+
+-- A fault behind the first byte of a response is told by the close alone.
+abbrev pub look_coming : Flow → Item ReadResponse → ℕ → Used → Bool → Look Command
+look_coming flow (bad_body fault head body) moment used closed = Ends (ends_early flow (fault_message fault) moment used closed)
+look_coming flow _ moment used closed = NotYet
 
 abbrev pub finds : Place → At → Flow → Doing → Sight → Look Command
 finds place at flow (request_body given) seen = look_body flow (request_in seen) seen.now (server_parked at.parked seen) seen.closed
 finds place at flow connection seen = Asks (commands.Dial at.dials (dialled_for place flow.request) None)
 finds place at flow (response_head server sent) seen =
     look_answer flow (answers_in flow.request seen).final seen.now (server_in server seen) seen.closed
-finds place at flow (response_body server sent) seen =
+finds place at flow (response_body server sent most) seen =
     look_returned flow (answers_in flow.request seen).final seen.now (server_in server seen) seen.closed
+finds place at flow (coming_down server sent) seen =
+    look_coming flow (answers_in flow.request seen).final seen.now (server_in server seen) seen.closed
 finds place at flow (upgraded server) seen = Ends []
 finds place at flow given_head seen = Asks (ask_of (given_at flow seen.now) ResponseHead)
 finds place at flow given_body seen = Asks (ask_of flow ResponseBody)
@@ -257,7 +311,8 @@ find terms _ seen = Ends []
 abbrev pub leaves : At → Flow → Doing → Sight → List Command
 leaves at flow (request_body given) seen = ends_early flow closed_message seen.now (server_parked at.parked seen) true
 leaves at flow (response_head server sent) seen = ends_early flow closed_message seen.now (server_in server seen) true
-leaves at flow (response_body server sent) seen = ends_early (without_response flow) closed_message seen.now (server_in server seen) true
+leaves at flow (response_body server sent most) seen = ends_early (without_response flow) closed_message seen.now (server_in server seen) true
+leaves at flow (coming_down server sent) seen = ends_early flow closed_message seen.now (server_in server seen) true
 leaves at flow _ seen = []
 
 abbrev pub leaving : Stage → Sight → List Command
@@ -268,10 +323,11 @@ leaving _ seen = []
 abbrev pub look : Terms → Stage → Sight → Look Command
 look terms stage seen = or_leaves seen.closed (leaving stage seen) (find terms stage seen)
 
--- ---- what it owes while it waits: the interim responses that have come
+-- ---- what it owes while it waits: the interim responses that have come, and what came of a response that is streamed
 
 abbrev pub waits : Flow → Doing → Sight → List Command
 waits flow (response_head server sent) seen = interim_commands flow.request (answers_in flow.request seen).interim
+waits flow (coming_down server sent) seen = sends_coming flow seen
 waits flow _ seen = []
 
 abbrev pub so_far : Stage → Sight → List Command
@@ -290,18 +346,19 @@ behind _ seen = []
 
 -- ---- what a reply brings
 
-abbrev pub turns : Place → At → Flow → Doing → Sight → Timed Reply → Turn Stage Command
-turns place at flow (request_body given) seen answer = turn_body place at flow (request_in seen) seen answer
-turns place at flow connection seen answer = turn_dial place at flow answer seen.closed
-turns place at flow (response_head server sent) seen answer = turn_answer at flow server (answers_in flow.request seen).final seen answer
-turns place at flow (response_body server sent) seen answer = turn_returned at flow server (answers_in flow.request seen).final seen answer
-turns place at flow (upgraded server) seen answer = stops
-turns place at flow given_head seen answer = turn_given_head at (given_at flow seen.now) answer (server_parked at.parked seen) seen.closed
-turns place at flow given_body seen answer = turn_whole_answer at flow answer (server_parked at.parked seen) seen.closed
+abbrev pub turns : Terms → At → Flow → Doing → Sight → Timed Reply → Turn Stage Command
+turns terms at flow (request_body given) seen answer = turn_body terms.place at flow (request_in seen) seen answer
+turns terms at flow connection seen answer = turn_dial terms.place at flow answer seen.closed
+turns terms at flow (response_head server sent) seen answer = turn_answer terms at flow server (answers_in flow.request seen).final seen answer
+turns terms at flow (response_body server sent most) seen answer = turn_returned at flow server (answers_in flow.request seen).final seen answer
+turns terms at flow (coming_down server sent) seen answer = stops
+turns terms at flow (upgraded server) seen answer = stops
+turns terms at flow given_head seen answer = turn_given_head at (given_at flow seen.now) answer (server_parked at.parked seen) seen.closed
+turns terms at flow given_body seen answer = turn_whole_answer at flow answer (server_parked at.parked seen) seen.closed
 
 abbrev pub turn : Terms → Stage → Sight → Timed Reply → Turn Stage Command
 turn terms (idle at) seen answer = turn_head terms at (request_in seen) seen answer
-turn terms (busy at flow doing) seen answer = turns terms.place at flow doing seen answer
+turn terms (busy at flow doing) seen answer = turns terms at flow doing seen answer
 turn terms stage seen answer = record { owed = []; stage = stage }
 
 -- where a finished flow leads: alone it is the end, in sequence the next flow begins
@@ -353,13 +410,14 @@ stands from moment prefix stage = record {
 }
 
 -- A stage that went on without a reply in this sight stands since before, behind what it used.
-abbrev pub passed : Standing → Sight → Standing
-passed place seen = record place { stage = pass place.stage seen; used = used_by_pass place.stage seen place.used }
+abbrev pub passed : (Stage → Stage) → Standing → Sight → Standing
+passed onward place seen = record place { stage = onward (pass place.stage seen).stage; used = used_by_pass place.stage seen place.used }
 
 -- the chain of one flow, or of flows in sequence
 abbrev pub http_chain : (Stage → Stage) → Terms → Chain Standing Event Reply Command
 http_chain onward terms = record {
-  pass = λ place prefix. record { owed = []; stage = passed place (sight_over place prefix) };
+  pass = λ place prefix.
+      let seen = sight_over place prefix in record { owed = (pass place.stage seen).owed; stage = passed onward place seen };
   look = λ place prefix. look terms place.stage (sight_over place prefix);
   so_far = λ place prefix. so_far place.stage (sight_over place prefix);
   behind = λ place prefix. behind place.stage (sight_over place prefix);

@@ -1,13 +1,14 @@
 -- How many answers a stage can still ask for, if nothing more is taken.
 use Rattle.std.specs.Prelude.{ℕ, ◌+◌, ◌-◌, ◌*◌}
-use Rattle.px_chain.specs.Stages.{Doing, Stage, busy, connection, given_body, given_head, idle, next, over, request_body, response_body, response_head, upgraded}
+use Rattle.px_chain.specs.Stages.{Doing, Stage, busy, coming_down, connection, given_body, given_head, idle, next, over, request_body, response_body, response_head, upgraded}
 
 -- A flow asks four hooks and a dial at most: those from here on.
 abbrev pub doing_left : Doing → ℕ
 doing_left (request_body given) = 4
 doing_left connection = 3
 doing_left (response_head side how) = 2
-doing_left (response_body side how) = 1
+doing_left (response_body side how most) = 1
+doing_left (coming_down side how) = 0
 doing_left (upgraded side) = 0
 doing_left given_head = 2
 doing_left given_body = 1

@@ -1,5 +1,7 @@
 pub mod Chain
+pub mod Coming
 pub mod Left
+pub mod ReadBack
 pub mod Sent
 pub mod Sights
 pub mod Silent

@@ -68,14 +68,18 @@ client_left (busy at flow (request_body given)) seen = left_by (request_in seen)
 client_left _ seen = seen.client
 
 -- and of the server's: those of the responses to a request, where the final one is whole
+abbrev pub used_by_answers : Answers → ℕ → ℕ
+used_by_answers answers used = used_with answers.final (used + answers.used)
+
+abbrev pub left_by_answers : Answers → List ℕ → List ℕ
+left_by_answers answers bytes = left_by answers.final (drop answers.used bytes)
+
 abbrev pub server_used : Stage → Sight → ℕ → ℕ
-server_used (busy at flow (response_body server sent)) seen used =
-    let answers = answers_in flow.request seen in used_with answers.final (used + answers.used)
+server_used (busy at flow (response_body server sent most)) seen used = used_by_answers (answers_in flow.request seen) used
 server_used _ seen used = used
 
 abbrev pub server_left : Stage → Sight → List ℕ
-server_left (busy at flow (response_body server sent)) seen =
-    let answers = answers_in flow.request seen in left_by answers.final (drop answers.used seen.server)
+server_left (busy at flow (response_body server sent most)) seen = left_by_answers (answers_in flow.request seen) seen.server
 server_left _ seen = seen.server
 
 -- ---- a stage over a prefix

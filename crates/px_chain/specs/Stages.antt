@@ -30,9 +30,12 @@ pub data Doing : Type 0 where
   request_body : (given : Option Response) → Doing
   -- the request is whole and its hook was answered: the connection to its server
   connection : Doing
-  -- the server is connected: the head of its final response, and behind that head's hook the response's body
+  -- the server is connected: the head of its final response, and behind that head's hook the response's body, of which no more is
+  -- kept than the reply to that hook allowed, if it told a size
   response_head : (server : ℕ) (sent : Sent) → Doing
-  response_body : (server : ℕ) (sent : Sent) → Doing
+  response_body : (server : ℕ) (sent : Sent) (most : Option ℕ) → Doing
+  -- the response is streamed: it is sent on as it comes, and no hook is asked about it any more
+  coming_down : (server : ℕ) (sent : Sent) → Doing
   -- the response has code 101 and was sent: HTTP ends here, and the flow does not
   upgraded : (server : ℕ) → Doing
   -- a response was given in place of the server's, and goes through both hooks
@@ -67,7 +70,8 @@ side_parked (Some parked) = Some parked.server
 
 abbrev pub side_in : At → Doing → Option ℕ
 side_in at (response_head server sent) = Some server
-side_in at (response_body server sent) = Some server
+side_in at (response_body server sent most) = Some server
+side_in at (coming_down server sent) = Some server
 side_in at (upgraded server) = Some server
 side_in at _ = side_parked at.parked
 

@@ -4,7 +4,13 @@
 //! A proxy takes a request from a client, shows it to hooks, sends it to a server, and brings the response back the same way
 //! (RFC 9112 sections 2 and 9, RFC 9110 section 7.6). In `specs/Stages.antt` a conversation is `idle`, where the head of a request is
 //! awaited; `busy` with a flow, awaiting its request's body, the connection to its server, the head of its final response, that
-//! response's body, or the hooks of a response that was given in the server's place; behind a finished flow (`next`); or `over`.
+//! response's body, the rest of one that is streamed, or the hooks of a response that was given in the server's place; behind a finished
+//! flow (`next`); or `over`.
+//!
+//! A response is streamed where the answer to its head's hook allows a size that it exceeds, by its length or by the bytes that came
+//! (`specs/Coming.antt`, in the terms of `px_parts`). Then the stage passes to `coming_down`, which owes the text of what came so far, and where it
+//! is whole the flow ends without a question: so passing owes that text, the finished flow and the closes. What is owed so is a function of the
+//! joined bytes, and grows with them.
 //!
 //! HTTP ends in two more ways, behind which another protocol follows, and a crate above goes on from there. A CONNECT asks for a tunnel
 //! (RFC 9110 section 9.3.6): `idle` finds it and owes nothing, and `connect_in` says where the tunnel is asked for to, and how many of the
@@ -28,7 +34,8 @@
 //! text and leads to awaiting the response's head, where nothing is found until the server's bytes begin with a final response.
 //!
 //! `laws` says what follows: what is due only grows, in each view; a server hears nothing before its dial was answered, and the text of
-//! one request at most; bytes come before the end of their flow, and that before closes; a CONNECT that ends HTTP stands whole. What is due where every reply goes on, without stages, and that it is read as what was
+//! one request at most; bytes come before the end of their flow, and that before closes; a CONNECT that ends HTTP stands whole; a streamed response
+//! is sent as it comes. What is due where every reply goes on, without stages, and that it is read as what was
 //! read, is said in `px_said`. For crates with larger chains `proofs/CountedLemmas.antt` says that no server hears anything early of any chain that counts its servers, as this one does.
 #![tactic(auto)]
 

@@ -1,7 +1,5 @@
 -- Places that show the same look alike, and a piece that waits may be taken early: what px_event's laws of walks ask for.
-use Rattle.std.proofs.Common.{◌≡◌, ℕ, false, List, [], ◌∷◌, ◌++◌, map, Some, None, refl, ap, sym, ◌∙◌, subst}
-use Rattle.px_message.specs.declared.flow.Flow.{Flow}
-use Rattle.px_message.specs.declared.response.Response.{Response}
+use Rattle.std.proofs.Common.{◌≡◌, ℕ, false, List, [], ◌∷◌, ◌++◌, map, refl, ap, sym, ◌∙◌, subst}
 use Rattle.px_event.specs.declared.command.Command.{Command}
 use Rattle.px_event.specs.declared.event.Event.{Event}
 use Rattle.px_event.specs.declared.event.Event.TheVariants as events
@@ -11,79 +9,29 @@ use Rattle.px_event.specs.declared.side.Side.TheVariants.{Client, Server}
 use Rattle.px_event.specs.Alike.{Alike, FoundAlike, OwesAlike, passes_over, TurnsAlike, Unhurried}
 use Rattle.px_event.specs.Chain.{Asks, at_its_step, Chain, Ends, found, later, Look, NotYet, Stamp, Stamped, Timed, worked_off}
 use Rattle.px_event.specs.Laws.{IsFound, IsSettled}
-use Rattle.px_read.specs.Items.{Item, missing, part, complete, bad_head, bad_body}
-use Rattle.px_read.specs.declared.head.RequestHead.{RequestHead as ReadRequest}
 use Rattle.px_exchange.specs.declared.terms.Terms.{Terms}
-use Rattle.px_chain.specs.Chain.{behind, http_chain, look, pass, pass_body, sequence, sight_past, so_far, stands, turn, used_by_pass, IsOnward, is_alone, is_sequence}
-use Rattle.px_chain.specs.Sights.{Sight, Standing, UsedBytes, request_in, sight_behind, sight_over, sight_with, used_with}
-use Rattle.px_chain.specs.Stages.{At, Stage, busy, connection, given_body, given_head, idle, next, over, request_body, response_body, response_head, side_of, upgraded}
+use Rattle.px_chain.specs.Chain.{behind, http_chain, look, pass, sight_past, so_far, stands, turn, IsOnward}
+use Rattle.px_chain.specs.Sights.{Sight, Standing, sight_behind, sight_over, sight_with}
+use Rattle.px_chain.specs.Stages.{Stage, side_of}
 use Rattle.px_chain.specs.Streams.{client_closed, now_over}
 use Rattle.px_chain.proofs.ChainLaws.{open_still}
 use Rattle.px_chain.proofs.FrontLaws.{now_here}
-use Rattle.px_chain.proofs.SightLaws.{IsSideFrom, onward_from, side_passed, sight_passed, sight_turned}
+use Rattle.px_chain.proofs.SightLaws.{IsSideFrom, onward_from, sight_turned, side_onward}
 use Rattle.px_cuts.specs.Alike.{PlacesAlike, HeardEarly}
-use Rattle.px_cuts.specs.Cuts.{AlikeSeen, IsDialled, MayBeHeard, MayWaitFor, retimed}
+use Rattle.px_cuts.specs.Cuts.{AlikeSeen, IsDialled, MayBeHeard, MayWaitFor, retimed, MayStand}
 use Rattle.px_cuts.specs.Shown.{hears, look_over, moment_at, passed_over, retimed_stage, shown_over, shown_sight}
-use Rattle.px_cuts.proofs.PlaceLaws.{behind_late, behind_retimed, hears_behind, may_more, may_passed, may_turned, moment_alike, moment_passed, onward_leads, passed_leads, passed_shown, shown_more, side_retimed}
+use Rattle.px_cuts.proofs.PlaceLaws.{behind_late, behind_retimed, hears_behind, may_more, may_passed, may_turned, moment_alike, onward_leads, passed_leads, passed_shown, shown_more, side_retimed, moment_led, now_at, passed_stage, retimed_on, sight_on}
 use Rattle.px_cuts.proofs.ShownLaws.{behind_shown, look_shown, pass_shown, retimed_look, retimed_reply, retimed_turn, so_far_shown, turn_shown}
-use Rattle.px_cuts.proofs.StayLaws.{finds_alike, FindsAlike, leaves_more, passes_with, ReadersStay}
+use Rattle.px_cuts.proofs.StayLaws.{finds_alike, FindsAlike, leaves_more, passes_with, ReadersStay, PassesWith}
+use Rattle.std.proofs.lemmas.List.{map-append}
+use Rattle.px_cuts.proofs.WorkLaws.{works}
 
 -- two changed at once
 both : {A B C : Type 0} (f : A → B → C) (a a' : A) (b b' : B) → a ≡ a' → b ≡ b' → f a b ≡ f a' b'
 both f a a' b b' one two = ap (λ x. f x b) one ∙ ap (λ y. f a' y) two
 
--- ---- passing
-
--- A stage that does not pass stays, and uses nothing.
-record NotPassed (stage : Stage) (seen : Sight) (used : UsedBytes) : Type 0 where
-  stays : pass stage seen ≡ stage
-  uses_nothing : used_by_pass stage seen used ≡ used
-
--- a stage that passed finds something
-not_passed_by : (terms : Terms) (at : At) (flow : Flow) (response : Response) (item : Item ReadRequest) (seen : Sight) (used : UsedBytes) → request_in seen ≡ item →
-    look terms (pass_body at flow (Some response) item seen.now) (sight_past (busy at flow (request_body (Some response))) seen) ≡ NotYet →
-    (pass_body at flow (Some response) item seen.now ≡ busy at flow (request_body (Some response))) × (used_with item used.client ≡ used.client)
-not_passed_by terms at flow response missing seen used there is = (refl, refl)
-not_passed_by terms at flow response (part head body) seen used there is = (refl, refl)
-not_passed_by terms at flow response (complete head body trailers size) seen used there is =
-    let P : Look Command → Type 0 = IsFound in absurd (subst P is tt)
-not_passed_by terms at flow response (bad_head fault) seen used there is = (refl, refl)
-not_passed_by terms at flow response (bad_body fault head body) seen used there is = (refl, refl)
-
-not_passed : (terms : Terms) (stage : Stage) (seen : Sight) (used : UsedBytes) → look terms (pass stage seen) (sight_past stage seen) ≡ NotYet → NotPassed stage seen used
-not_passed terms (idle at) seen used is = record { stays = refl; uses_nothing = refl }
-not_passed terms (busy at flow (request_body None)) seen used is = record { stays = refl; uses_nothing = refl }
-not_passed terms (busy at flow (request_body (Some response))) seen used is =
-    let both = not_passed_by terms at flow response (request_in seen) seen used refl is in
-    record { stays = both.0; uses_nothing = ap (λ n. (let more : UsedBytes = record used { client = n } in more)) both.1 }
-not_passed terms (busy at flow connection) seen used is = record { stays = refl; uses_nothing = refl }
-not_passed terms (busy at flow (response_head side how)) seen used is = record { stays = refl; uses_nothing = refl }
-not_passed terms (busy at flow (response_body side how)) seen used is = record { stays = refl; uses_nothing = refl }
-not_passed terms (busy at flow (upgraded side)) seen used is = record { stays = refl; uses_nothing = refl }
-not_passed terms (busy at flow given_head) seen used is = record { stays = refl; uses_nothing = refl }
-not_passed terms (busy at flow given_body) seen used is = record { stays = refl; uses_nothing = refl }
-not_passed terms (next at) seen used is = record { stays = refl; uses_nothing = refl }
-not_passed terms over seen used is = record { stays = refl; uses_nothing = refl }
-
-stays_there : (terms : Terms) (s : Standing) (f : List (Timed Event)) → look_over terms (passed_over s f) f ≡ NotYet → passed_over s f ≡ s
-stays_there terms s f is =
-    let there : Stage = pass s.stage (sight_over s f) in
-    let none = not_passed terms s.stage (sight_over s f) s.used (ap (λ v. look terms there v) (sym (sight_passed s f)) ∙ is) in
-    ap (λ stage. (let here : Standing = record s { stage = stage; used = used_by_pass s.stage (sight_over s f) s.used } in here)) none.stays
-    ∙ ap (λ used. (let here : Standing = record s { used = used } in here)) none.uses_nothing
-
 -- a turn and the stages that lead on, seen so
 module _ (see : ℕ → ℕ) where
-  retimed_sequence : (s : Stage) → retimed_stage see (sequence s) ≡ sequence (retimed_stage see s)
-  retimed_sequence (idle at) = refl
-  retimed_sequence (busy at flow doing) = refl
-  retimed_sequence (next at) = refl
-  retimed_sequence over = refl
-
-  retimed_on : (onward : Stage → Stage) → IsOnward onward → (s : Stage) → retimed_stage see (onward s) ≡ onward (retimed_stage see s)
-  retimed_on onward (is_alone is) s = let P : (Stage → Stage) → Type 0 = λ g. retimed_stage see (g s) ≡ g (retimed_stage see s) in subst P (sym is) refl
-  retimed_on onward (is_sequence is) s = let P : (Stage → Stage) → Type 0 = λ g. retimed_stage see (g s) ≡ g (retimed_stage see s) in subst P (sym is) (retimed_sequence s)
-
   -- stages that are the same, seen so, use the same side
   same_sides : (s t : Stage) → retimed_stage see s ≡ retimed_stage see t → side_of s ≡ side_of t
   same_sides s t is = sym (side_retimed see s) ∙ (ap side_of is ∙ side_retimed see t)
@@ -115,14 +63,23 @@ module _ (see : ℕ → ℕ) where
 
     -- ---- places that show the same
 
-    pub pass_alike : (s : Standing) (f : List (Timed Event)) (t : Standing) (g : List (Timed Event)) → PlacesAlike see s f t g → PlacesAlike see (passed_over s f) f (passed_over t g) g
+    pub owed_alike : (s : Standing) (f : List (Timed Event)) (t : Standing) (g : List (Timed Event)) → PlacesAlike see s f t g →
+        AlikeSeen see (pass s.stage (sight_over s f)).owed (pass t.stage (sight_over t g)).owed
+    owed_alike s f t g place =
+        ap (λ turned. turned.owed)
+        (pass_shown see s.stage (sight_over s f)
+        ∙ (both pass (retimed_stage see s.stage) (retimed_stage see t.stage) (shown s f) (shown t g) place.stages place.sights ∙ sym (pass_shown see t.stage (sight_over t g))))
+
+    pub pass_alike : (s : Standing) (f : List (Timed Event)) (t : Standing) (g : List (Timed Event)) → PlacesAlike see s f t g →
+        PlacesAlike see (passed_over onward s f) f (passed_over onward t g) g
     pass_alike s f t g place = record {
-      stages = pass_shown see s.stage (sight_over s f)
-          ∙ (both pass (retimed_stage see s.stage) (retimed_stage see t.stage) (shown s f) (shown t g) place.stages place.sights ∙ sym (pass_shown see t.stage (sight_over t g)));
-      sights = passed_shown see s f
-          ∙ (both sight_past (retimed_stage see s.stage) (retimed_stage see t.stage) (shown s f) (shown t g) place.stages place.sights ∙ sym (passed_shown see t g));
-      may = may_passed s f place.may;
-      other_may = may_passed t g place.other_may;
+      stages = passed_stage see onward goes s.stage (sight_over s f)
+          ∙ (both (λ a v. onward (pass a v).stage) (retimed_stage see s.stage) (retimed_stage see t.stage) (shown s f) (shown t g) place.stages place.sights
+          ∙ sym (passed_stage see onward goes t.stage (sight_over t g)));
+      sights = passed_shown see onward goes s f
+          ∙ (both (sight_on onward) (retimed_stage see s.stage) (retimed_stage see t.stage) (shown s f) (shown t g) place.stages place.sights ∙ sym (passed_shown see onward goes t g));
+      may = may_passed onward goes s f place.may;
+      other_may = may_passed onward goes t g place.other_may;
     }
 
     pub owes_alike : (s : Standing) (f : List (Timed Event)) (t : Standing) (g : List (Timed Event)) → PlacesAlike see s f t g → OwesAlike chain (AlikeSeen see) s f t g
@@ -161,8 +118,8 @@ module _ (see : ℕ → ℕ) where
         retimed_turn see (turn terms s.stage (sight_over s f) answer) ≡ retimed_turn see (turn terms t.stage (sight_over t g) other) →
         retimed_stage see (led s f answer) ≡ retimed_stage see (led t g other)
     led_alike s f t g answer other turned =
-        retimed_on onward goes (turn terms s.stage (sight_over s f) answer).stage
-        ∙ (ap (λ x. onward x.stage) turned ∙ sym (retimed_on onward goes (turn terms t.stage (sight_over t g) other).stage))
+        retimed_on see onward goes (turn terms s.stage (sight_over s f) answer).stage
+        ∙ (ap (λ x. onward x.stage) turned ∙ sym (retimed_on see onward goes (turn terms t.stage (sight_over t g) other).stage))
 
     -- behind the same stages, seen so, and the same sights, at the same moment
     behind_alike : (a a' : Stage) (v w : Sight) (now other : ℕ) (b b' : Stage) → retimed_stage see a ≡ retimed_stage see a' → v ≡ w → now ≡ other → retimed_stage see b ≡ retimed_stage see b' →
@@ -212,7 +169,7 @@ module _ (see : ℕ → ℕ) where
     -- Places that show the same look alike.
     pub alike : Alike chain (AlikeSeen see) (PlacesAlike see)
     alike = record {
-      passes = λ s f t g place. record { owed = refl; stage = pass_alike s f t g place };
+      passes = λ s f t g place. record { owed = owed_alike s f t g place; stage = pass_alike s f t g place };
       owes = λ s f t g place settled other. owes_alike s f t g place;
       turns = λ s f t g place settled other ask is answer. turn_alike s f t g place answer answer (record { value = refl; moment = refl });
       more = λ s f t g place settled other is e. more_alike s f t g place is e e refl refl;
@@ -226,50 +183,81 @@ module _ (see : ℕ → ℕ) where
 
     module _ (readers : ReadersStay) (event : Stamped Event) where
       -- by the side of the stage seen so
-      heard_so : (last : Stamp) (s : Standing) (f : List (Timed Event)) (t : Standing) (g : List (Timed Event)) (place : HeardEarly see terms event last s f t g) →
+      heard_so : (last : Stamp) (s : Standing) (f : List (Timed Event)) (t : Standing) (g : List (Timed Event)) (place : HeardEarly see onward terms event last s f t g) →
           hears (side_of (retimed_stage see s.stage)) (shown s f) (events.Piece place.side place.bytes) ≡ shown t g
       heard_so last s f t g place = ap (λ x. hears x (shown s f) (events.Piece place.side place.bytes)) (side_retimed see s.stage) ∙ place.hears
 
-      early_passes : (last : Stamp) (s : Standing) (f : List (Timed Event)) (t : Standing) (g : List (Timed Event)) → HeardEarly see terms event last s f t g →
-          IsFound (look_over terms (passed_over s f) f) → HeardEarly see terms event last (passed_over s f) f (passed_over t g) g
+      -- where something is found behind passing, seen so
+      passed_finds : (s : Standing) (f : List (Timed Event)) → retimed_look see (look_over terms (passed_over onward s f) f)
+          ≡ look terms (onward (pass (retimed_stage see s.stage) (shown s f)).stage) (sight_on onward (retimed_stage see s.stage) (shown s f))
+      passed_finds s f =
+          let v : Sight = sight_over s f in
+          let there : Standing = passed_over onward s f in
+          look_shown see terms there.stage (sight_over there f)
+          ∙ both (look terms) (retimed_stage see there.stage) (onward (pass (retimed_stage see s.stage) (shown s f)).stage) (shown there f) (sight_on onward (retimed_stage see s.stage) (shown s f))
+          (passed_stage see onward goes s.stage v) (passed_shown see onward goes s f)
+
+      -- the piece behind passing
+      heard_behind : (last : Stamp) (s : Standing) (f : List (Timed Event)) (t : Standing) (g : List (Timed Event)) (place : HeardEarly see onward terms event last s f t g) →
+          let first = onward (pass (retimed_stage see s.stage) (shown s f)).stage in
+          hears (side_of (passed_over onward s f).stage) (shown (passed_over onward s f) f) (events.Piece place.side place.bytes)
+          ≡ hears (side_of first) (sight_on onward (retimed_stage see s.stage) (shown s f)) (events.Piece place.side place.bytes)
+      heard_behind last s f t g place =
+          let there : Standing = passed_over onward s f in
+          both (λ a x. hears a x (events.Piece place.side place.bytes)) (side_of there.stage) (side_of (onward (pass (retimed_stage see s.stage) (shown s f)).stage))
+          (shown there f) (sight_on onward (retimed_stage see s.stage) (shown s f))
+          (sym (side_retimed see there.stage) ∙ ap side_of (passed_stage see onward goes s.stage (sight_over s f))) (passed_shown see onward goes s f)
+
+      early_pass : (last : Stamp) (s : Standing) (f : List (Timed Event)) (t : Standing) (g : List (Timed Event)) (place : HeardEarly see onward terms event last s f t g) →
+          IsFound (look_over terms (passed_over onward s f) f) → PassesWith terms readers place.side place.bytes (retimed_stage see s.stage) (shown s f)
+      early_pass last s f t g place is =
+          let P : Look Command → Type 0 = IsFound in
+          passes_with terms readers place.side place.bytes onward goes (retimed_stage see s.stage) (shown s f) place.open_client
+          (subst P (passed_finds s f) (is_found_seen (look_over terms (passed_over onward s f) f) is))
+
+      early_passes : (last : Stamp) (s : Standing) (f : List (Timed Event)) (t : Standing) (g : List (Timed Event)) → HeardEarly see onward terms event last s f t g →
+          IsFound (look_over terms (passed_over onward s f) f) →
+          TurnsAlike (AlikeSeen see) (λ a b. HeardEarly see onward terms event last a f b g) (chain.pass s f) (chain.pass t g)
       early_passes last s f t g place is =
           let v : Sight = sight_over s f in
           let stage : Stage = retimed_stage see s.stage in
           let piece : Event = events.Piece place.side place.bytes in
           let more : Sight = hears (side_of stage) (shown s f) piece in
-          let P : Look Command → Type 0 = IsFound in
-          let there : IsFound (look terms (pass stage (shown s f)) (sight_past stage (shown s f))) =
-          subst P (look_shown see terms (pass s.stage v) (sight_over (passed_over s f) f)
-          ∙ both (look terms) (retimed_stage see (pass s.stage v)) (pass stage (shown s f)) (shown (passed_over s f) f) (sight_past stage (shown s f)) (pass_shown see s.stage v) (passed_shown see s f))
-          (is_found_seen (look_over terms (passed_over s f) f) is) in
-          let same = passes_with terms readers place.side place.bytes stage (shown s f) place.open_client there in
+          let first : Stage = onward (pass stage (shown s f)).stage in
+          let same = early_pass last s f t g place is in
+          let turned : retimed_turn see (pass s.stage v) ≡ retimed_turn see (pass t.stage (sight_over t g)) =
+          pass_shown see s.stage v
+          ∙ (sym same.stays
+          ∙ (both pass stage (retimed_stage see t.stage) more (shown t g) place.stages (heard_so last s f t g place) ∙ sym (pass_shown see t.stage (sight_over t g)))) in
           record {
-            side = place.side;
-            bytes = place.bytes;
-            is_piece = place.is_piece;
-            stages = pass_shown see s.stage v
-                ∙ (sym same.stays
-                ∙ (both pass stage (retimed_stage see t.stage) more (shown t g) place.stages (heard_so last s f t g place)
-                ∙ sym (pass_shown see t.stage (sight_over t g))));
-            hears = both (λ a x. hears a x piece) (side_of (pass s.stage v)) (side_of stage) (shown (passed_over s f) f) (sight_past stage (shown s f))
-                (side_passed s.stage v ∙ sym (side_retimed see s.stage)) (passed_shown see s f)
-                ∙ (sym same.leaves
-                ∙ (both sight_past stage (retimed_stage see t.stage) more (shown t g) place.stages (heard_so last s f t g place) ∙ sym (passed_shown see t g)));
-            open_client = place.open_client;
-            comes = moment_passed see s.stage v (later last event.stamp).moment ∙ (place.comes ∙ sym (moment_passed see s.stage v (now_over s.since f)));
-            heard = λ again. heard_on place.side s.stage (pass s.stage v) (passed_leads s.stage v).dialled (place.heard is);
-            may = may_passed s f place.may;
-            other_may = may_passed t g place.other_may;
+            owed = ap (λ x. x.owed) turned;
+            stage = record {
+              side = place.side;
+              bytes = place.bytes;
+              is_piece = place.is_piece;
+              stages = retimed_on see onward goes (pass s.stage v).stage
+                  ∙ (ap (λ x. onward x.stage) turned ∙ sym (retimed_on see onward goes (pass t.stage (sight_over t g)).stage));
+              hears = heard_behind last s f t g place
+                  ∙ (ap (λ x. hears x (sight_on onward stage (shown s f)) piece) (side_onward onward goes (pass stage (shown s f)).stage)
+                  ∙ (ap (λ l. (let there : Sight = record l { now = now_at first (shown s f).now } in there)) (sym same.leaves)
+                  ∙ (ap (λ x. (let there : Sight = record (sight_past stage more) { now = now_at (onward x.stage) (shown s f).now } in there)) (sym same.stays)
+                  ∙ (both (sight_on onward) stage (retimed_stage see t.stage) more (shown t g) place.stages (heard_so last s f t g place) ∙ sym (passed_shown see onward goes t g)))));
+              open_client = place.open_client;
+              comes = moment_led see onward goes s.stage v (later last event.stamp).moment (now_over s.since f) place.comes;
+              heard = λ again. heard_on place.side s.stage (onward (pass s.stage v).stage) (passed_leads onward goes s.stage v).dialled (place.heard is);
+              may = may_passed onward goes s f place.may;
+              other_may = may_passed onward goes t g place.other_may;
+            };
           }
 
-      finds : (last : Stamp) (s : Standing) (f : List (Timed Event)) (t : Standing) (g : List (Timed Event)) (place : HeardEarly see terms event last s f t g) → IsFound (look_over terms s f) →
+      finds : (last : Stamp) (s : Standing) (f : List (Timed Event)) (t : Standing) (g : List (Timed Event)) (place : HeardEarly see onward terms event last s f t g) → IsFound (look_over terms s f) →
           FindsAlike terms (retimed_stage see s.stage) (shown s f) (hears (side_of (retimed_stage see s.stage)) (shown s f) (events.Piece place.side place.bytes))
       finds last s f t g place is =
           let P : Look Command → Type 0 = IsFound in
           finds_alike terms readers place.side place.bytes (retimed_stage see s.stage) (shown s f) place.open_client
           (subst P (look_shown see terms s.stage (sight_over s f)) (is_found_seen (look_over terms s f) is))
 
-      early_owes : (last : Stamp) (s : Standing) (f : List (Timed Event)) (t : Standing) (g : List (Timed Event)) → HeardEarly see terms event last s f t g → IsFound (look_over terms s f) →
+      early_owes : (last : Stamp) (s : Standing) (f : List (Timed Event)) (t : Standing) (g : List (Timed Event)) → HeardEarly see onward terms event last s f t g → IsFound (look_over terms s f) →
           OwesAlike chain (AlikeSeen see) s f t g
       early_owes last s f t g place is =
           let same = finds last s f t g place is in
@@ -285,9 +273,9 @@ module _ (see : ℕ → ℕ) where
                 ∙ (sym same.behind ∙ (both behind stage (retimed_stage see t.stage) more (shown t g) place.stages (heard_so last s f t g place) ∙ sym (behind_shown see t.stage (sight_over t g))));
           }
 
-      early_turns : (last : Stamp) (s : Standing) (f : List (Timed Event)) (t : Standing) (g : List (Timed Event)) → HeardEarly see terms event last s f t g → IsSettled chain s f →
+      early_turns : (last : Stamp) (s : Standing) (f : List (Timed Event)) (t : Standing) (g : List (Timed Event)) → HeardEarly see onward terms event last s f t g → IsSettled chain s f →
           (ask : Command) → look_over terms s f ≡ Asks ask → (reply : Stamped Reply) → MayWaitFor see event reply →
-          TurnsAlike (AlikeSeen see) (λ a b. HeardEarly see terms event reply.stamp a f b g) (chain.turn s f (at_its_step reply)) (chain.turn t g (at_its_step reply))
+          TurnsAlike (AlikeSeen see) (λ a b. HeardEarly see onward terms event reply.stamp a f b g) (chain.turn s f (at_its_step reply)) (chain.turn t g (at_its_step reply))
       early_turns last s f t g place settled ask is reply waits =
           let P : Look Command → Type 0 = IsFound in
           let piece : Event = events.Piece place.side place.bytes in
@@ -328,32 +316,53 @@ module _ (see : ℕ → ℕ) where
           }
 
       -- where nothing is found without it, it is worked off
-      worked : (last : Stamp) (s : Standing) (f : List (Timed Event)) (t : Standing) (g : List (Timed Event)) → HeardEarly see terms event last s f t g →
-          PlacesAlike see s (f ++ worked_off last event ∷ []) t g
-      worked last s f t g place =
-          let e : Timed Event = worked_off last event in
-          record {
-            stages = place.stages;
-            sights = shown_more see s f e place.may place.open_client
-                ∙ (ap (λ x. sight_with (side_of s.stage) (shown s f) x (moment_at see s.stage e.moment)) place.is_piece
-                ∙ (ap (λ n. sight_with (side_of s.stage) (shown s f) (events.Piece place.side place.bytes) n) place.comes ∙ place.hears));
-            may = may_more s f e place.may;
-            other_may = place.other_may;
-          }
-
-      early_works_off : (last : Stamp) (s : Standing) (f : List (Timed Event)) (t : Standing) (g : List (Timed Event)) → HeardEarly see terms event last s f t g →
-          look_over terms (passed_over s f) f ≡ NotYet →
+      early_works_off : (last : Stamp) (s : Standing) (f : List (Timed Event)) (t : Standing) (g : List (Timed Event)) → HeardEarly see onward terms event last s f t g →
+          look_over terms (passed_over onward s f) f ≡ NotYet →
           let prefix = f ++ worked_off last event ∷ [] in
           TurnsAlike (AlikeSeen see) (λ a b. PlacesAlike see a prefix b g) (passes_over chain (chain.pass s f) prefix) (chain.pass t g)
       early_works_off last s f t g place is =
-          let prefix = f ++ worked_off last event ∷ [] in
-          let P : Standing → Type 0 = λ x. PlacesAlike see (passed_over x prefix) prefix (passed_over t g) g in
-          record { owed = refl; stage = subst P (sym (stays_there terms s f is)) (pass_alike s prefix t g (worked last s f t g place)) }
+          let e : Timed Event = worked_off last event in
+          let prefix : List (Timed Event) = f ++ e ∷ [] in
+          let there : Standing = passed_over onward s f in
+          let stage : Stage = retimed_stage see s.stage in
+          let piece : Event = events.Piece place.side place.bytes in
+          let first : Stage = onward (pass stage (shown s f)).stage in
+          let left : Sight = sight_on onward stage (shown s f) in
+          let more : Sight = hears (side_of stage) (shown s f) piece in
+          let done = works place.side place.bytes terms readers onward goes stage (shown s f) place.open_client (sym (passed_finds s f) ∙ ap (λ l. retimed_look see l) is) in
+          let to : retimed_stage see there.stage ≡ first = passed_stage see onward goes s.stage (sight_over s f) in
+          let may : MayStand there f = may_passed onward goes s f place.may in
+          let comes = moment_led see onward goes s.stage (sight_over s f) e.moment (now_over s.since f) place.comes in
+          let seen : shown there prefix ≡ hears (side_of first) left piece =
+          shown_more see there f e may place.open_client
+          ∙ (ap (λ x. sight_with (side_of there.stage) (shown there f) x (moment_at see there.stage e.moment)) place.is_piece
+          ∙ (ap (λ n. sight_with (side_of there.stage) (shown there f) piece n) comes ∙ heard_behind last s f t g place)) in
+          let again : retimed_turn see (pass there.stage (sight_over there prefix)) ≡ pass first (hears (side_of first) left piece) =
+          pass_shown see there.stage (sight_over there prefix) ∙ both pass (retimed_stage see there.stage) first (shown there prefix) (hears (side_of first) left piece) to seen in
+          let whole : pass stage more ≡ retimed_turn see (pass t.stage (sight_over t g)) =
+          both pass stage (retimed_stage see t.stage) more (shown t g) place.stages (heard_so last s f t g place) ∙ sym (pass_shown see t.stage (sight_over t g)) in
+          record {
+            owed = map-append (retimed see) (pass s.stage (sight_over s f)).owed (pass there.stage (sight_over there prefix)).owed
+                ∙ (ap (λ x. x.owed ++ map (retimed see) (pass there.stage (sight_over there prefix)).owed) (pass_shown see s.stage (sight_over s f))
+                ∙ (ap (λ x. (pass stage (shown s f)).owed ++ x.owed) again
+                ∙ (done.owes ∙ ap (λ x. x.owed) whole)));
+            stage = record {
+              stages = retimed_on see onward goes (pass there.stage (sight_over there prefix)).stage
+                  ∙ (ap (λ x. onward x.stage) again
+                  ∙ (done.leads ∙ (ap (λ x. onward x.stage) whole ∙ sym (retimed_on see onward goes (pass t.stage (sight_over t g)).stage))));
+              sights = passed_shown see onward goes there prefix
+                  ∙ (both (sight_on onward) (retimed_stage see there.stage) first (shown there prefix) (hears (side_of first) left piece) to seen
+                  ∙ (done.leaves
+                  ∙ (both (sight_on onward) stage (retimed_stage see t.stage) more (shown t g) place.stages (heard_so last s f t g place) ∙ sym (passed_shown see onward goes t g))));
+              may = may_passed onward goes there prefix (may_more there f e may);
+              other_may = may_passed onward goes t g place.other_may;
+            };
+          }
 
       -- A piece that waits may be taken early.
-      pub unhurried : Unhurried chain (AlikeSeen see) (PlacesAlike see) (MayWaitFor see event) event (HeardEarly see terms event)
+      pub unhurried : Unhurried chain (AlikeSeen see) (PlacesAlike see) (MayWaitFor see event) event (HeardEarly see onward terms event)
       unhurried = record {
-        passes = λ last s f t g place is. record { owed = refl; stage = early_passes last s f t g place is };
+        passes = λ last s f t g place is. early_passes last s f t g place is;
         owes = λ last s f t g place settled other is. early_owes last s f t g place is;
         turns = λ last s f t g place settled other ask is reply waits. early_turns last s f t g place settled ask is reply waits;
         works_off = λ last s f t g place is. early_works_off last s f t g place is;

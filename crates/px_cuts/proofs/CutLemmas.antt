@@ -43,13 +43,13 @@ module _ (see : ℕ → ℕ) (onward : Stage → Stage) (goes : IsOnward onward)
   pub starts : (start other : Standing) (events : List (Stamped Event)) (replies : List (Stamped Reply)) → PlacesAlike see start [] other [] →
       AlikeSeen see (due (http_chain onward terms) start events replies) (due (http_chain onward terms) other events replies)
   starts start other events replies place =
-      same_owed (http_chain onward terms) (AlikeSeen see) (is_like see) (PlacesAlike see) (alike see onward goes terms) (settles onward terms) replies never [] [] start [] other [] events refl place
+      same_owed (http_chain onward terms) (AlikeSeen see) (is_like see) (PlacesAlike see) (alike see onward goes terms) (settles onward goes terms) replies never [] [] start [] other [] events refl place
 
   -- where a walk stops, its stage may stand
   pub stands : (start : Standing) (before : List (Stamped Event)) (replies : List (Stamped Reply)) → MayStand start [] →
       MayStand (walk_from (http_chain onward terms) start before replies).stage (walk_from (http_chain onward terms) start before replies).prefix
   stands start before replies may =
-      (same_stops (http_chain onward terms) (AlikeSeen see) (is_like see) (PlacesAlike see) (alike see onward goes terms) (settles onward terms)
+      (same_stops (http_chain onward terms) (AlikeSeen see) (is_like see) (PlacesAlike see) (alike see onward goes terms) (settles onward goes terms)
       replies never [] [] start [] start [] before refl (record { stages = refl; sights = refl; may = may; other_may = may })).place.may
 
   pub cut : (start : Standing) (before after : List (Stamped Event)) (replies : List (Stamped Reply)) (stamp first second : Stamp) (side : Side) (bytes more : List ℕ) →
@@ -61,12 +61,12 @@ module _ (see : ℕ → ℕ) (onward : Stage → Stage) (goes : IsOnward onward)
   cut start before after replies stamp first second side bytes more may waits whole half =
       let w = walk_from (http_chain onward terms) start before replies in
       let second_half : Stamped Event = piece_at second side more in
-      two_for_one (http_chain onward terms) (AlikeSeen see) (is_like see) (settles onward terms) (PlacesAlike see) (alike see onward goes terms)
-      (MayWaitFor see second_half) second_half (HeardEarly see terms second_half) (unhurried see onward goes terms readers second_half)
+      two_for_one (http_chain onward terms) (AlikeSeen see) (is_like see) (settles onward goes terms) (PlacesAlike see) (alike see onward goes terms)
+      (MayWaitFor see second_half) second_half (HeardEarly see onward terms second_half) (unhurried see onward goes terms readers second_half)
       start before after (piece_at first side bytes) (piece_at stamp side (bytes ++ more)) replies
       (λ is. record {
-        place = cut_early see terms w first second stamp side bytes more (stands start before replies may) is
-            (stopped (http_chain onward terms) (settles onward terms) replies never [] start [] before).settled.stays whole half;
+        place = cut_early see onward goes terms w first second stamp side bytes more (stands start before replies may) is
+            (stopped (http_chain onward terms) (settles onward goes terms) replies never [] start [] before).settled.stays whole half;
         replies = waits;
       })
 
@@ -82,14 +82,14 @@ module _ (see : ℕ → ℕ) (onward : Stage → Stage) (goes : IsOnward onward)
       let one : Stamped Event = piece_at first side bytes in
       let next : Stamped Event = piece_at second other more in
       let standing = stands start before replies may in
-      swapped (http_chain onward terms) (AlikeSeen see) (is_like see) (settles onward terms) (PlacesAlike see) (alike see onward goes terms)
+      swapped (http_chain onward terms) (AlikeSeen see) (is_like see) (settles onward goes terms) (PlacesAlike see) (alike see onward goes terms)
       (λ a b c same alike. same ∙ sym alike)
-      (MayWaitFor see next) (MayWaitFor see one) next one (HeardEarly see terms next) (HeardEarly see terms one)
+      (MayWaitFor see next) (MayWaitFor see one) next one (HeardEarly see onward terms next) (HeardEarly see onward terms one)
       (unhurried see onward goes terms readers next) (unhurried see onward goes terms readers one)
       start before after replies w.stage _
       (λ is. (
-        record { place = next_early see terms w first second side other bytes more standing is heard' half; replies = waits' },
-        record { place = swap_early see terms w first second side other bytes more standing is two heard half; replies = waits },
+        record { place = next_early see onward goes terms w first second side other bytes more standing is heard' half; replies = waits' },
+        record { place = swap_early see onward goes terms w first second side other bytes more standing is two heard half; replies = waits },
       ))
 
 -- a piece in two, at any moments

@@ -1,6 +1,8 @@
+pub mod ComingLaws
 pub mod ShownLaws
 pub mod PlaceLaws
 pub mod StayLaws
+pub mod WorkLaws
 pub mod AlikeLaws
 pub mod PieceLemmas
 pub mod CutLemmas

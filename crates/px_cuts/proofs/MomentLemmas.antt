@@ -13,9 +13,9 @@ use Rattle.px_event.specs.Chain.{Asks, at_its_step, Chain, due, Ends, found_with
 use Rattle.px_event.specs.Trace.{is_same_side}
 use Rattle.px_exchange.specs.declared.terms.Terms.{Terms}
 use Rattle.px_cuts.specs.Alike.{is_like, PlacesAlike}
-use Rattle.px_cuts.proofs.AlikeLaws.{more_alike, owes_alike, pass_alike, turn_alike}
-use Rattle.px_chain.specs.Chain.{http_chain, IsOnward}
-use Rattle.px_chain.specs.Sights.{Standing}
+use Rattle.px_cuts.proofs.AlikeLaws.{more_alike, owes_alike, pass_alike, turn_alike, owed_alike}
+use Rattle.px_chain.specs.Chain.{http_chain, IsOnward, pass}
+use Rattle.px_chain.specs.Sights.{Standing, sight_over}
 use Rattle.px_cuts.specs.Cuts.{EqualButForMoments, joined_onto, joined_pieces, MayStand, no_moment, piece_at, retimed, SameStreams, values_of}
 use Rattle.px_chain.specs.Stages.{Stage}
 use Rattle.px_cuts.specs.Shown.{behind_over, look_over, passed_over, so_far_over}
@@ -69,12 +69,12 @@ module _ (onward : Stage → Stage) (goes : IsOnward onward) (terms : Terms) whe
 
   -- the search where it stands
   abbrev here_at : List Command → Standing → List (Timed Event) → List (Stamped Event) → Reached Standing Event Command
-  here_at before s f es = record { before = before ++ []; stage = passed_over s f; prefix = f; rest = es }
+  here_at before s f es = record { before = before ++ (pass s.stage (sight_over s f)).owed; stage = passed_over onward s f; prefix = f; rest = es }
 
   here_alike : (before other : List Command) (s : Standing) (f : List (Timed Event)) (t : Standing) (g : List (Timed Event)) (es xs : List (Stamped Event)) →
       EqualButForMoments before other → Same s f t g → values_of es ≡ values_of xs → ReachedAlike (here_at before s f es) (here_at other t g xs)
   here_alike before other s f t g es xs befores place same = record {
-    before = joins before other [] [] befores refl;
+    before = joins before other _ _ befores (owed_alike no_moment onward goes terms s f t g place);
     place = pass_alike no_moment onward goes terms s f t g place;
     rest = same;
   }
@@ -102,11 +102,11 @@ module _ (onward : Stage → Stage) (goes : IsOnward onward) (terms : Terms) whe
       let one : e.value ≡ x.value = cc in
       let others : values_of es ≡ values_of xs = cc in
       let at = here_alike before other s f t g (e ∷ es) (x ∷ xs) befores place same in
-      let on = passed_over s f in
-      let on' = passed_over t g in
+      let on = passed_over onward s f in
+      let on' = passed_over onward t g in
       reach_by_alike (look_over terms on f) (look_over terms on' g) _ _ _ _
       (both_find (look_over terms on f) (look_over terms on' g) (owes_alike no_moment onward goes terms on f on' g at.place).look)
-      (λ is. reach_alike last last' (before ++ []) (other ++ []) on (f ++ worked_off last e ∷ []) on' (g ++ worked_off last' x ∷ []) es xs at.before
+      (λ is. reach_alike last last' (before ++ (pass s.stage (sight_over s f)).owed) (other ++ (pass t.stage (sight_over t g)).owed) on (f ++ worked_off last e ∷ []) on' (g ++ worked_off last' x ∷ []) es xs at.before
       (more_alike no_moment onward goes terms on f on' g at.place is (worked_off last e) (worked_off last' x) one refl) others)
       at
 

@@ -19,15 +19,15 @@ use Rattle.px_event.specs.Trace.{is_same_side}
 use Rattle.px_exchange.specs.declared.terms.Terms.{Terms}
 use Rattle.px_cuts.specs.Alike.{HeardEarly}
 use Rattle.px_cuts.proofs.AlikeLaws.{is_found_seen}
-use Rattle.px_chain.specs.Chain.{look, pass, sight_past}
+use Rattle.px_chain.specs.Chain.{look, pass, IsOnward}
 use Rattle.px_chain.specs.Sights.{Sight, Standing, server_with, shut_with, sight_over, sight_with}
 use Rattle.px_cuts.specs.Cuts.{AlikeSeen, as_it_is, DialledBefore, IsDialled, IsNoEarlier, MayBeHeard, MayStand, MayWaitFor, no_moment, piece_at, retimed, retimed_error, retimed_flow, retimed_option}
 use Rattle.px_chain.specs.Stages.{Stage, busy, idle, next, over, place_of, side_of}
 use Rattle.px_chain.proofs.ChainLaws.{open_still}
 use Rattle.px_chain.proofs.FrontLaws.{closed_more}
 use Rattle.px_cuts.specs.Shown.{hears, look_over, moment_at, passed_over, retimed_stage, shown_over}
-use Rattle.px_cuts.proofs.PlaceLaws.{make_eq, may_more, moment_alike, passed_shown, shown_more}
-use Rattle.px_cuts.proofs.ShownLaws.{look_shown, pass_shown, retimed_look}
+use Rattle.px_cuts.proofs.PlaceLaws.{make_eq, may_more, moment_alike, passed_shown, shown_more, passed_stage, sight_on}
+use Rattle.px_cuts.proofs.ShownLaws.{look_shown, retimed_look}
 use Rattle.px_chain.specs.Streams.{client_closed}
 
 -- ---- bytes in two pieces
@@ -142,7 +142,8 @@ unheard_by : (own : Option ℕ) (dials : ℕ) (v : Sight) (server : ℕ) (bytes 
 unheard_by own dials v server bytes before late =
     make_eq _ _ _ _ _ _ _ _ v.now v.now (append-nil v.client) (stays_open v.closed) (server_unheard own dials v.shut v.server server bytes before late) (shut_unheard own v.shut server bytes) refl
 
-module _ (terms : Terms) (s : Standing) (prefix : List (Timed Event)) (e : Timed Event) (may : MayStand s prefix) (is : look_over terms s prefix ≡ NotYet) (settled : passed_over s prefix ≡ s) where
+module _ (onward : Stage → Stage) (goes : IsOnward onward) (terms : Terms) (s : Standing) (prefix : List (Timed Event)) (e : Timed Event) (may : MayStand s prefix)
+    (is : look_over terms s prefix ≡ NotYet) (settled : passed_over onward s prefix ≡ s) where
   abbrev longer : List (Timed Event)
   longer = prefix ++ e ∷ []
 
@@ -156,36 +157,36 @@ module _ (terms : Terms) (s : Standing) (prefix : List (Timed Event)) (e : Timed
       ∙ unheard_by (side_of s.stage) (place_of s.stage).dials v server bytes may.dialled late))
 
   -- what is found where it passed, but for moments
-  found_passed : (f : List (Timed Event)) → retimed_look no_moment (look_over terms (passed_over s f) f)
-      ≡ look terms (pass (retimed_stage no_moment s.stage) (shown_over no_moment s f)) (sight_past (retimed_stage no_moment s.stage) (shown_over no_moment s f))
+  found_passed : (f : List (Timed Event)) → retimed_look no_moment (look_over terms (passed_over onward s f) f)
+      ≡ look terms (onward (pass (retimed_stage no_moment s.stage) (shown_over no_moment s f)).stage) (sight_on onward (retimed_stage no_moment s.stage) (shown_over no_moment s f))
   found_passed f =
-      let there : Standing = passed_over s f in
+      let there : Standing = passed_over onward s f in
       look_shown no_moment terms there.stage (sight_over there f)
-      ∙ (ap (λ x. look terms x (shown_over no_moment there f)) (pass_shown no_moment s.stage (sight_over s f))
-      ∙ ap (λ v. look terms (pass (retimed_stage no_moment s.stage) (shown_over no_moment s f)) v) (passed_shown no_moment s f))
+      ∙ (ap (λ x. look terms x (shown_over no_moment there f)) (passed_stage no_moment onward goes s.stage (sight_over s f))
+      ∙ ap (λ v. look terms (onward (pass (retimed_stage no_moment s.stage) (shown_over no_moment s f)).stage) v) (passed_shown no_moment onward goes s f))
 
   -- nothing is found with it either
   unheard_finds : (server : ℕ) (bytes : List ℕ) → e.value ≡ events.Piece (Server server) bytes → (place_of s.stage).dials ≤ server →
-      retimed_look no_moment (look_over terms (passed_over s longer) longer) ≡ NotYet
+      retimed_look no_moment (look_over terms (passed_over onward s longer) longer) ≡ NotYet
   unheard_finds server bytes piece late =
       found_passed longer
-      ∙ (ap (λ v. look terms (pass (retimed_stage no_moment s.stage) v) (sight_past (retimed_stage no_moment s.stage) v)) (unheard_shows server bytes piece late)
+      ∙ (ap (λ v. look terms (onward (pass (retimed_stage no_moment s.stage) v).stage) (sight_on onward (retimed_stage no_moment s.stage) v)) (unheard_shows server bytes piece late)
       ∙ (sym (found_passed prefix)
       ∙ (ap (λ x. retimed_look no_moment (look_over terms x prefix)) settled ∙ ap (λ l. retimed_look no_moment l) is)))
 
   server_heard : (server : ℕ) (bytes : List ℕ) (below : Bool) → e.value ≡ events.Piece (Server server) bytes → nat_lt server (place_of s.stage).dials ≡ below →
-      IsFound (look_over terms (passed_over s longer) longer) → MayBeHeard (Server server) s.stage
+      IsFound (look_over terms (passed_over onward s longer) longer) → MayBeHeard (Server server) s.stage
   server_heard server bytes true piece at found = dialled_by server s.stage (ltb-true server (place_of s.stage).dials at)
   server_heard server bytes false piece at found =
       let P : Look Command → Type 0 = IsFound in
-      absurd (subst P (unheard_finds server bytes piece (ltb-false server (place_of s.stage).dials at)) (is_found_seen no_moment (look_over terms (passed_over s longer) longer) found))
+      absurd (subst P (unheard_finds server bytes piece (ltb-false server (place_of s.stage).dials at)) (is_found_seen no_moment (look_over terms (passed_over onward s longer) longer) found))
 
   -- where something is found with a piece, its side may be heard
-  found_heard : (side : Side) (bytes : List ℕ) → e.value ≡ events.Piece side bytes → IsFound (look_over terms (passed_over s longer) longer) → MayBeHeard side s.stage
+  found_heard : (side : Side) (bytes : List ℕ) → e.value ≡ events.Piece side bytes → IsFound (look_over terms (passed_over onward s longer) longer) → MayBeHeard side s.stage
   found_heard Client bytes piece found = tt
   found_heard (Server server) bytes piece found = server_heard server bytes (nat_lt server (place_of s.stage).dials) piece refl found
 
-module _ (see : ℕ → ℕ) (terms : Terms) where
+module _ (see : ℕ → ℕ) (onward : Stage → Stage) (goes : IsOnward onward) (terms : Terms) where
   abbrev HttpStop : Type 0
   HttpStop = Stop Standing Event Reply Command
 
@@ -194,8 +195,8 @@ module _ (see : ℕ → ℕ) (terms : Terms) where
 
   -- behind the first half, the second may be taken early, to where the whole was worked off
   pub cut_early : (w : HttpStop) (first second stamp : Stamp) (side : Side) (bytes more : List ℕ) → MayStand w.stage w.prefix → look_over terms w.stage w.prefix ≡ NotYet →
-      passed_over w.stage w.prefix ≡ w.stage → see (later w.last first).moment ≡ see (later w.last stamp).moment → see (later w.last second).moment ≡ see (later w.last first).moment →
-      HeardEarly see terms (piece_at second side more) w.last w.stage (front_with w (piece_at first side bytes)) w.stage (front_with w (piece_at stamp side (bytes ++ more)))
+      passed_over onward w.stage w.prefix ≡ w.stage → see (later w.last first).moment ≡ see (later w.last stamp).moment → see (later w.last second).moment ≡ see (later w.last first).moment →
+      HeardEarly see onward terms (piece_at second side more) w.last w.stage (front_with w (piece_at first side bytes)) w.stage (front_with w (piece_at stamp side (bytes ++ more)))
   cut_early w first second stamp side bytes more may is settled whole half =
       let open_client : client_closed w.prefix ≡ false = open_still terms w.stage.stage (sight_over w.stage w.prefix) is in
       let stage : Stage = w.stage.stage in
@@ -214,7 +215,7 @@ module _ (see : ℕ → ℕ) (terms : Terms) where
             ∙ sym shows');
         open_client = still_open w.prefix e.moment side bytes open_client;
         comes = moment_alike see stage stage (later w.last second).moment e.moment refl half ∙ sym (ap (λ v. v.now) shows);
-        heard = found_heard terms w.stage w.prefix e may is settled side bytes refl;
+        heard = found_heard onward goes terms w.stage w.prefix e may is settled side bytes refl;
         may = may_more w.stage w.prefix e may;
         other_may = may_more w.stage w.prefix e' may;
       }
@@ -222,7 +223,7 @@ module _ (see : ℕ → ℕ) (terms : Terms) where
   -- behind one piece, the other may be taken early
   pub next_early : (w : HttpStop) (first second : Stamp) (side other : Side) (bytes more : List ℕ) → MayStand w.stage w.prefix → look_over terms w.stage w.prefix ≡ NotYet →
       MayBeHeard other w.stage.stage → see (later w.last second).moment ≡ see (later w.last first).moment →
-      HeardEarly see terms (piece_at second other more) w.last w.stage (front_with w (piece_at first side bytes))
+      HeardEarly see onward terms (piece_at second other more) w.last w.stage (front_with w (piece_at first side bytes))
       w.stage (front_with w (piece_at first side bytes) ++ worked_off w.last (piece_at second other more) ∷ [])
   next_early w first second side other bytes more may is heard half =
       let open_client : client_closed w.prefix ≡ false = open_still terms w.stage.stage (sight_over w.stage w.prefix) is in
@@ -251,7 +252,7 @@ module _ (see : ℕ → ℕ) (terms : Terms) where
   -- and the other way round, to the same place
   pub swap_early : (w : HttpStop) (first second : Stamp) (side other : Side) (bytes more : List ℕ) → MayStand w.stage w.prefix → look_over terms w.stage w.prefix ≡ NotYet →
       is_same_side side other ≡ false → MayBeHeard side w.stage.stage → see (later w.last second).moment ≡ see (later w.last first).moment →
-      HeardEarly see terms (piece_at first side bytes) w.last w.stage (front_with w (piece_at second other more))
+      HeardEarly see onward terms (piece_at first side bytes) w.last w.stage (front_with w (piece_at second other more))
       w.stage (front_with w (piece_at first side bytes) ++ worked_off w.last (piece_at second other more) ∷ [])
   swap_early w first second side other bytes more may is two heard half =
       let open_client : client_closed w.prefix ≡ false = open_still terms w.stage.stage (sight_over w.stage w.prefix) is in

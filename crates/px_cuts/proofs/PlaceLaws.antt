@@ -28,15 +28,40 @@ use Rattle.px_exchange.specs.Flows.{response_of, with_answer, with_body, with_re
 use Rattle.px_exchange.specs.Places.{is_same_address, server_for}
 use Rattle.px_exchange.specs.Replies.{taken_at_request_body, taken_at_request_head, taken_at_response_body, taken_at_response_head}
 use Rattle.px_exchange.specs.Requests.{expects, flow_of, judged}
-use Rattle.px_chain.specs.Chain.{IsOnward, begin, behind_flow, dial_leads, finish_by, given_at, goes_on_by, is_alone, is_sequence, parked_for, pass, pass_body, sequence, side_if, sight_past, stands, turn, turn_answer, turn_answer_head, turn_body, turn_given_head, turn_head, turn_judged, turn_read_whole, turn_response, turn_returned, turn_taken_answer, turn_taken_body, turn_taken_given, turn_taken_head, turn_taken_returned, turn_taken_whole, turn_whole_answer}
+use Rattle.px_chain.specs.Chain.{IsOnward, begin, behind_flow, dial_leads, finish_by, given_at, goes_on_by, is_alone, is_sequence, parked_for, pass, pass_body, pass_came, pass_kept, past_came, past_kept, sequence, side_if, sight_past, stands, turn, turn_answer, turn_answer_head, turn_body, turn_given_head, turn_head, turn_judged, turn_read_whole, turn_response, turn_returned, turn_taken_answer, turn_taken_body, turn_taken_given, turn_taken_head, turn_taken_returned, turn_taken_whole, turn_whole_answer}
 use Rattle.px_chain.specs.Sights.{Sight, Standing, answers_in, client_left, dials_at, request_in, server_behind, server_in, server_left, server_parked, server_with, shut_behind, shut_with, sight_behind, sight_over, sight_with}
 use Rattle.px_chain.specs.Silent.{ParkedBelow}
-use Rattle.px_chain.specs.Stages.{At, Parked, Stage, busy, connection, given_body, given_head, idle, next, over, place_of, request_body, response_body, response_head, side_of, side_parked, Sent, unparked, upgraded}
+use Rattle.px_chain.specs.Stages.{At, Parked, Stage, busy, coming_down, connection, given_body, given_head, idle, next, over, place_of, request_body, response_body, response_head, side_of, side_parked, Sent, unparked, upgraded, Doing}
 use Rattle.px_event.specs.Sides.{piece_of}
 use Rattle.px_chain.specs.Streams.{client_closed}
 use Rattle.px_chain.proofs.SightLaws.{IsSideFrom, is_new, no_side, onward_from, same_server, sight_more, sight_passed, within_more, within_passed, within_stood}
 use Rattle.px_cuts.specs.Cuts.{DialledBefore, IsDialled, MayBeHeard, MayStand}
 use Rattle.px_cuts.specs.Shown.{hears, moment_at, passed_over, retimed_stage, shown_over, shown_sight}
+use Rattle.px_chain.specs.Coming.{Came, allowed_by, came_in, goes_on_behind, streaming, streams_in}
+use Rattle.px_cuts.proofs.ShownLaws.{pass_shown}
+
+-- ---- where conversations go on
+
+-- the moment that a stage shows: at the end none
+abbrev pub now_at : Stage → ℕ → ℕ
+now_at over moment = 0
+now_at stage moment = moment
+
+-- what is left of a sight where the stage passes, and shown there
+abbrev pub sight_on : (Stage → Stage) → Stage → Sight → Sight
+sight_on onward stage seen = record (sight_past stage seen) { now = now_at (onward (pass stage seen).stage) seen.now }
+
+pub busy_on : (onward : Stage → Stage) → IsOnward onward → (at : At) (flow : Flow) (doing : Doing) → onward (busy at flow doing) ≡ busy at flow doing
+busy_on onward (is_alone is) at flow doing = ap (λ f. f (busy at flow doing)) is
+busy_on onward (is_sequence is) at flow doing = ap (λ f. f (busy at flow doing)) is
+
+pub idle_on : (onward : Stage → Stage) → IsOnward onward → (at : At) → onward (idle at) ≡ idle at
+idle_on onward (is_alone is) at = ap (λ f. f (idle at)) is
+idle_on onward (is_sequence is) at = ap (λ f. f (idle at)) is
+
+pub over_on : (onward : Stage → Stage) → IsOnward onward → onward over ≡ over
+over_on onward (is_alone is) = ap (λ f. f over) is
+over_on onward (is_sequence is) = ap (λ f. f over) is
 
 -- ---- one event more
 
@@ -71,26 +96,12 @@ module _ (see : ℕ → ℕ) where
   moment_alike s t moment other stages same =
       moment_same s moment other same ∙ (sym (moment_retimed s other) ∙ (ap (λ x. moment_at see x other) stages ∙ moment_retimed t other))
 
-  -- and where the stage passes it shows the same as before
-  body_shows : (at : At) (flow : Flow) (given : Option Response) (item : Item ReadRequest) (now moment : ℕ) → moment_at see (pass_body at flow given item now) moment ≡ see moment
-  body_shows at flow None item now moment = refl
-  body_shows at flow (Some response) missing now moment = refl
-  body_shows at flow (Some response) (part head body) now moment = refl
-  body_shows at flow (Some response) (complete head body trailers used) now moment = refl
-  body_shows at flow (Some response) (bad_head fault) now moment = refl
-  body_shows at flow (Some response) (bad_body fault head body) now moment = refl
-
-  pub moment_passed : (stage : Stage) (seen : Sight) (moment : ℕ) → moment_at see (pass stage seen) moment ≡ moment_at see stage moment
-  moment_passed (idle at) seen moment = refl
-  moment_passed (busy at flow (request_body given)) seen moment = body_shows at flow given (request_in seen) seen.now moment
-  moment_passed (busy at flow connection) seen moment = refl
-  moment_passed (busy at flow (response_head side how)) seen moment = refl
-  moment_passed (busy at flow (response_body side how)) seen moment = refl
-  moment_passed (busy at flow (upgraded side)) seen moment = refl
-  moment_passed (busy at flow given_head) seen moment = refl
-  moment_passed (busy at flow given_body) seen moment = refl
-  moment_passed (next at) seen moment = refl
-  moment_passed over seen moment = refl
+  -- by the stage seen so
+  now_seen : (stage : Stage) (moment : ℕ) → moment_at see stage moment ≡ now_at (retimed_stage see stage) (see moment)
+  now_seen (idle at) moment = refl
+  now_seen (busy at flow doing) moment = refl
+  now_seen (next at) moment = refl
+  now_seen over moment = refl
 
 pub may_more : (place : Standing) (prefix : List (Timed Event)) (e : Timed Event) → MayStand place prefix → MayStand place (prefix ++ e ∷ [])
 may_more place prefix e may = record { within = within_more place prefix e may.within; dialled = may.dialled }
@@ -127,17 +138,32 @@ body_passes at flow (Some response) (complete head body trailers used) now = rec
 body_passes at flow (Some response) (bad_head fault) now = stays (busy at flow (request_body (Some response)))
 body_passes at flow (Some response) (bad_body fault head body) now = stays (busy at flow (request_body (Some response)))
 
-pub passed_leads : (stage : Stage) (seen : Sight) → Leads stage (pass stage seen)
-passed_leads (idle at) seen = stays (idle at)
-passed_leads (busy at flow (request_body given)) seen = body_passes at flow given (request_in seen) seen.now
-passed_leads (busy at flow connection) seen = stays (busy at flow connection)
-passed_leads (busy at flow (response_head side how)) seen = stays (busy at flow (response_head side how))
-passed_leads (busy at flow (response_body side how)) seen = stays (busy at flow (response_body side how))
-passed_leads (busy at flow (upgraded side)) seen = stays (busy at flow (upgraded side))
-passed_leads (busy at flow given_head) seen = stays (busy at flow given_head)
-passed_leads (busy at flow given_body) seen = stays (busy at flow given_body)
-passed_leads (next at) seen = stays (next at)
-passed_leads over seen = stays over
+finished_passes : (stays_on : Bool) (at : At) (flow : Flow) (doing : Doing) → Leads (busy at flow doing) (behind_flow stays_on (unparked at))
+finished_passes true at flow doing = record { dialled = λ server is. is; before = λ is. tt }
+finished_passes false at flow doing = leads_over (busy at flow doing)
+
+came_passes : (at : At) (flow : Flow) (side : ℕ) (how : Sent) (seen : Sight) (came : Option Came) → Leads (busy at flow (coming_down side how)) (pass_came at flow side how seen came).stage
+came_passes at flow side how seen None = stays (busy at flow (coming_down side how))
+came_passes at flow side how seen (Some came) = finished_passes (goes_on_behind at.flow flow.request came) at flow (coming_down side how)
+
+kept_passes : (streams : Bool) (at : At) (flow : Flow) (side : ℕ) (how : Sent) (most : Option ℕ) (seen : Sight) →
+    Leads (busy at flow (response_body side how most)) (pass_kept streams at flow side how most seen).stage
+kept_passes true at flow side how most seen =
+    let leads = came_passes at (streaming flow) side how seen (came_in (streaming flow) seen) in record { dialled = leads.dialled; before = leads.before }
+kept_passes false at flow side how most seen = stays (busy at flow (response_body side how most))
+
+passes_leads : (stage : Stage) (seen : Sight) → Leads stage (pass stage seen).stage
+passes_leads (idle at) seen = stays (idle at)
+passes_leads (busy at flow (request_body given)) seen = body_passes at flow given (request_in seen) seen.now
+passes_leads (busy at flow connection) seen = stays (busy at flow connection)
+passes_leads (busy at flow (response_head side how)) seen = stays (busy at flow (response_head side how))
+passes_leads (busy at flow (response_body side how most)) seen = kept_passes (streams_in flow most seen) at flow side how most seen
+passes_leads (busy at flow (coming_down side how)) seen = came_passes at flow side how seen (came_in flow seen)
+passes_leads (busy at flow (upgraded side)) seen = stays (busy at flow (upgraded side))
+passes_leads (busy at flow given_head) seen = stays (busy at flow given_head)
+passes_leads (busy at flow given_body) seen = stays (busy at flow given_body)
+passes_leads (next at) seen = stays (next at)
+passes_leads over seen = stays over
 
 -- ---- each turn
 
@@ -237,28 +263,29 @@ given_turned at flow other answer parked closed =
     (λ taken. given_taken at (busy at flow given_head) (λ server is. is) (λ is. is) other taken answer.moment parked closed)
 
 -- the server's side stays
-module _ (at : At) (flow : Flow) (side : ℕ) (how : Sent) where
+module _ (terms : Terms) (at : At) (flow : Flow) (side : ℕ) (how : Sent) where
   abbrev from_head : Stage
   from_head = busy at flow (response_head side how)
 
-  answer_taken : (other : Flow) (taken : Taken Response) (moment : ℕ) (used : Used) (closed : Bool) → Leads from_head (turn_taken_answer at other side taken moment used closed).stage
-  answer_taken other (GoesOn response) moment used closed = record { dialled = λ server is. is; before = λ is. is }
-  answer_taken other (Responds response) moment used closed = leads_over from_head
-  answer_taken other Kills moment used closed = leads_over from_head
+  answer_taken : (other : Flow) (most : Option ℕ) (taken : Taken Response) (moment : ℕ) (used : Used) (closed : Bool) → Leads from_head (turn_taken_answer at other side most taken moment used closed).stage
+  answer_taken other most (GoesOn response) moment used closed = record { dialled = λ server is. is; before = λ is. is }
+  answer_taken other most (Responds response) moment used closed = leads_over from_head
+  answer_taken other most Kills moment used closed = leads_over from_head
 
-  answer_head_turned : (head : ReadResponse) (seen : Sight) (answer : Timed Reply) → Leads from_head (turn_answer_head at flow side head seen answer).stage
+  answer_head_turned : (head : ReadResponse) (seen : Sight) (answer : Timed Reply) → Leads from_head (turn_answer_head terms at flow side head seen answer).stage
   answer_head_turned head seen answer =
-      answer_taken (with_answer flow (response_of head) seen.now) (taken_at_response_head (response_of head) answer.value) answer.moment (server_in side seen) seen.closed
+      answer_taken (with_answer flow (response_of head) seen.now) (allowed_by terms.streams answer.value) (taken_at_response_head (response_of head) answer.value) answer.moment (server_in side seen) seen.closed
 
-  answer_turned : (item : Item ReadResponse) (seen : Sight) (answer : Timed Reply) → Leads from_head (turn_answer at flow side item seen answer).stage
+  answer_turned : (item : Item ReadResponse) (seen : Sight) (answer : Timed Reply) → Leads from_head (turn_answer terms at flow side item seen answer).stage
   answer_turned missing seen answer = leads_over from_head
   answer_turned (part head body) seen answer = answer_head_turned head seen answer
   answer_turned (complete head body trailers size) seen answer = answer_head_turned head seen answer
   answer_turned (bad_head fault) seen answer = leads_over from_head
   answer_turned (bad_body fault head body) seen answer = answer_head_turned head seen answer
 
+module _ (at : At) (flow : Flow) (side : ℕ) (how : Sent) (most : Option ℕ) where
   abbrev from_body : Stage
-  from_body = busy at flow (response_body side how)
+  from_body = busy at flow (response_body side how most)
 
   -- also where it switches protocols
   finish_turned : (switches : Bool) (other : Flow) (response : Response) (used : Used) (closed : Bool) →
@@ -293,9 +320,10 @@ turned_leads : (terms : Terms) (stage : Stage) (seen : Sight) (answer : Timed Re
 turned_leads terms (idle at) seen answer = head_turned terms at (request_in seen) seen answer
 turned_leads terms (busy at flow (request_body given)) seen answer = body_turned terms.place at flow given (request_in seen) seen answer
 turned_leads terms (busy at flow connection) seen answer = dial_turned terms.place at flow answer.value
-turned_leads terms (busy at flow (response_head side how)) seen answer = answer_turned at flow side how (answers_in flow.request seen).final seen answer
-turned_leads terms (busy at flow (response_body side how)) seen answer =
-    returned_turned at flow side how (answers_in flow.request seen).final seen answer
+turned_leads terms (busy at flow (response_head side how)) seen answer = answer_turned terms at flow side how (answers_in flow.request seen).final seen answer
+turned_leads terms (busy at flow (response_body side how most)) seen answer =
+    returned_turned at flow side how most (answers_in flow.request seen).final seen answer
+turned_leads terms (busy at flow (coming_down side how)) seen answer = leads_over (busy at flow (coming_down side how))
 turned_leads terms (busy at flow (upgraded side)) seen answer = leads_over (busy at flow (upgraded side))
 turned_leads terms (busy at flow given_head) seen answer = given_turned at flow (given_at flow seen.now) answer (server_parked at.parked seen) seen.closed
 turned_leads terms (busy at flow given_body) seen answer = whole_turned at flow flow answer (server_parked at.parked seen) seen.closed
@@ -317,12 +345,16 @@ pub onward_leads : (onward : Stage → Stage) → IsOnward onward → (terms : T
     Leads stage (onward (turn terms stage seen answer).stage)
 onward_leads onward goes terms stage seen answer = leads_on onward goes stage (turn terms stage seen answer).stage (turned_leads terms stage seen answer)
 
+-- so where it passes
+pub passed_leads : (onward : Stage → Stage) → IsOnward onward → (stage : Stage) (seen : Sight) → Leads stage (onward (pass stage seen).stage)
+passed_leads onward goes stage seen = leads_on onward goes stage (pass stage seen).stage (passes_leads stage seen)
+
 -- ---- a place may stand where it leads
 
-pub may_passed : (place : Standing) (prefix : List (Timed Event)) → MayStand place prefix → MayStand (passed_over place prefix) prefix
-may_passed place prefix may = record {
-  within = within_passed place prefix may.within;
-  dialled = (passed_leads place.stage (sight_over place prefix)).before may.dialled;
+pub may_passed : (onward : Stage → Stage) → IsOnward onward → (place : Standing) (prefix : List (Timed Event)) → MayStand place prefix → MayStand (passed_over onward place prefix) prefix
+may_passed onward goes place prefix may = record {
+  within = within_passed onward goes place prefix may.within;
+  dialled = (passed_leads onward goes place.stage (sight_over place prefix)).before may.dialled;
 }
 
 pub may_turned : (onward : Stage → Stage) → IsOnward onward → (terms : Terms) (place : Standing) (prefix : List (Timed Event)) (answer : Timed Reply) → MayStand place prefix →
@@ -405,7 +437,8 @@ client_late (idle at) seen late = refl
 client_late (busy at flow (request_body given)) seen late = refl
 client_late (busy at flow connection) seen late = refl
 client_late (busy at flow (response_head side how)) seen late = refl
-client_late (busy at flow (response_body side how)) seen late = refl
+client_late (busy at flow (response_body side how most)) seen late = refl
+client_late (busy at flow (coming_down side how)) seen late = refl
 client_late (busy at flow (upgraded side)) seen late = refl
 client_late (busy at flow given_head) seen late = refl
 client_late (busy at flow given_body) seen late = refl
@@ -417,7 +450,8 @@ server_late (idle at) seen late = refl
 server_late (busy at flow (request_body given)) seen late = refl
 server_late (busy at flow connection) seen late = refl
 server_late (busy at flow (response_head side how)) seen late = refl
-server_late (busy at flow (response_body side how)) seen late = refl
+server_late (busy at flow (response_body side how most)) seen late = refl
+server_late (busy at flow (coming_down side how)) seen late = refl
 server_late (busy at flow (upgraded side)) seen late = refl
 server_late (busy at flow given_head) seen late = refl
 server_late (busy at flow given_body) seen late = refl
@@ -443,7 +477,8 @@ module _ (see : ℕ → ℕ) where
   client_retimed (busy at flow (request_body given)) seen = refl
   client_retimed (busy at flow connection) seen = refl
   client_retimed (busy at flow (response_head side how)) seen = refl
-  client_retimed (busy at flow (response_body side how)) seen = refl
+  client_retimed (busy at flow (response_body side how most)) seen = refl
+  client_retimed (busy at flow (coming_down side how)) seen = refl
   client_retimed (busy at flow (upgraded side)) seen = refl
   client_retimed (busy at flow given_head) seen = refl
   client_retimed (busy at flow given_body) seen = refl
@@ -455,7 +490,8 @@ module _ (see : ℕ → ℕ) where
   server_retimed (busy at flow (request_body given)) seen = refl
   server_retimed (busy at flow connection) seen = refl
   server_retimed (busy at flow (response_head side how)) seen = refl
-  server_retimed (busy at flow (response_body side how)) seen = refl
+  server_retimed (busy at flow (response_body side how most)) seen = refl
+  server_retimed (busy at flow (coming_down side how)) seen = refl
   server_retimed (busy at flow (upgraded side)) seen = refl
   server_retimed (busy at flow given_head) seen = refl
   server_retimed (busy at flow given_body) seen = refl
@@ -473,24 +509,100 @@ module _ (see : ℕ → ℕ) where
 
   -- ---- and where it passes
 
-  past_retimed : (stage : Stage) (seen : Sight) → shown_sight see stage (sight_past stage seen) ≡ sight_past (retimed_stage see stage) (shown_sight see stage seen)
-  past_retimed (idle at) seen = refl
-  past_retimed (busy at flow (request_body None)) seen = refl
-  past_retimed (busy at flow (request_body (Some response))) seen = refl
-  past_retimed (busy at flow connection) seen = refl
-  past_retimed (busy at flow (response_head side how)) seen = refl
-  past_retimed (busy at flow (response_body side how)) seen = refl
-  past_retimed (busy at flow (upgraded side)) seen = refl
-  past_retimed (busy at flow given_head) seen = refl
-  past_retimed (busy at flow given_body) seen = refl
-  past_retimed (next at) seen = refl
-  past_retimed over seen = refl
+  -- what passes leaves the moment
+  came_now : (came : Option Came) (seen : Sight) → (past_came came seen).now ≡ seen.now
+  came_now None seen = refl
+  came_now (Some came) seen = refl
+
+  kept_now : (streams : Bool) (came : Option Came) (seen : Sight) → (past_kept streams came seen).now ≡ seen.now
+  kept_now true came seen = came_now came seen
+  kept_now false came seen = refl
+
+  past_now : (stage : Stage) (seen : Sight) → (sight_past stage seen).now ≡ seen.now
+  past_now (idle at) seen = refl
+  past_now (busy at flow (request_body None)) seen = refl
+  past_now (busy at flow (request_body (Some response))) seen = refl
+  past_now (busy at flow connection) seen = refl
+  past_now (busy at flow (response_head side how)) seen = refl
+  past_now (busy at flow (response_body side how most)) seen = kept_now (streams_in flow most seen) (came_in (streaming flow) seen) seen
+  past_now (busy at flow (coming_down side how)) seen = came_now (came_in flow seen) seen
+  past_now (busy at flow (upgraded side)) seen = refl
+  past_now (busy at flow given_head) seen = refl
+  past_now (busy at flow given_body) seen = refl
+  past_now (next at) seen = refl
+  past_now over seen = refl
+
+  -- and hangs on none
+  abbrev at_moment : Sight → ℕ → Sight
+  at_moment seen now = record seen { now = now }
+
+  came_late : (came : Option Came) (seen : Sight) (late now : ℕ) → at_moment (past_came came seen) now ≡ at_moment (past_came came (at_moment seen late)) now
+  came_late None seen late now = refl
+  came_late (Some came) seen late now = refl
+
+  kept_late : (streams : Bool) (came : Option Came) (seen : Sight) (late now : ℕ) →
+      at_moment (past_kept streams came seen) now ≡ at_moment (past_kept streams came (at_moment seen late)) now
+  kept_late true came seen late now = came_late came seen late now
+  kept_late false came seen late now = refl
+
+  past_retimed : (stage : Stage) (seen : Sight) (now : ℕ) →
+      at_moment (sight_past stage seen) now ≡ at_moment (sight_past (retimed_stage see stage) (shown_sight see stage seen)) now
+  past_retimed (idle at) seen now = refl
+  past_retimed (busy at flow (request_body None)) seen now = refl
+  past_retimed (busy at flow (request_body (Some response))) seen now = refl
+  past_retimed (busy at flow connection) seen now = refl
+  past_retimed (busy at flow (response_head side how)) seen now = refl
+  past_retimed (busy at flow (response_body side how most)) seen now = kept_late (streams_in flow most seen) (came_in (streaming flow) seen) seen (see seen.now) now
+  past_retimed (busy at flow (coming_down side how)) seen now = came_late (came_in flow seen) seen (see seen.now) now
+  past_retimed (busy at flow (upgraded side)) seen now = refl
+  past_retimed (busy at flow given_head) seen now = refl
+  past_retimed (busy at flow given_body) seen now = refl
+  past_retimed (next at) seen now = refl
+  past_retimed over seen now = refl
+
+  retimed_sequence : (s : Stage) → retimed_stage see (sequence s) ≡ sequence (retimed_stage see s)
+  retimed_sequence (idle at) = refl
+  retimed_sequence (busy at flow doing) = refl
+  retimed_sequence (next at) = refl
+  retimed_sequence over = refl
+
+  pub retimed_on : (onward : Stage → Stage) → IsOnward onward → (s : Stage) → retimed_stage see (onward s) ≡ onward (retimed_stage see s)
+  retimed_on onward (is_alone is) s = let P : (Stage → Stage) → Type 0 = λ g. retimed_stage see (g s) ≡ g (retimed_stage see s) in subst P (sym is) refl
+  retimed_on onward (is_sequence is) s = let P : (Stage → Stage) → Type 0 = λ g. retimed_stage see (g s) ≡ g (retimed_stage see s) in subst P (sym is) (retimed_sequence s)
+
+  -- the stage that it passes to, seen so
+  pub passed_stage : (onward : Stage → Stage) → IsOnward onward → (stage : Stage) (seen : Sight) →
+      retimed_stage see (onward (pass stage seen).stage) ≡ onward (pass (retimed_stage see stage) (shown_sight see stage seen)).stage
+  passed_stage onward goes stage seen = retimed_on onward goes (pass stage seen).stage ∙ ap (λ turned. onward turned.stage) (pass_shown see stage seen)
+
+  -- at the end none is told of the moment
+  now_led : (onward : Stage → Stage) → IsOnward onward → (stage : Stage) (seen : Sight) (moment : ℕ) →
+      now_at (onward (pass (retimed_stage see stage) seen).stage) (see moment) ≡ now_at (onward (pass (retimed_stage see stage) seen).stage) (moment_at see stage moment)
+  now_led onward goes (idle at) seen moment = refl
+  now_led onward goes (busy at flow doing) seen moment = refl
+  now_led onward goes (next at) seen moment = refl
+  now_led onward goes over seen moment = rw (over_on onward goes) refl
+
+  pub moment_led : (onward : Stage → Stage) → IsOnward onward → (stage : Stage) (seen : Sight) (moment other : ℕ) → moment_at see stage moment ≡ moment_at see stage other →
+      moment_at see (onward (pass stage seen).stage) moment ≡ moment_at see (onward (pass stage seen).stage) other
+  moment_led onward goes (idle at) seen moment other same = moment_same see (onward (pass (idle at) seen).stage) moment other same
+  moment_led onward goes (busy at flow doing) seen moment other same = moment_same see (onward (pass (busy at flow doing) seen).stage) moment other same
+  moment_led onward goes (next at) seen moment other same = moment_same see (onward (pass (next at) seen).stage) moment other same
+  moment_led onward goes over seen moment other same =
+      ap (λ s. moment_at see s moment) (over_on onward goes) ∙ sym (ap (λ s. moment_at see s other) (over_on onward goes))
 
   -- what is shown there is what is left of what is shown
-  pub passed_shown : (place : Standing) (prefix : List (Timed Event)) →
-      shown_over see (passed_over place prefix) prefix ≡ sight_past (retimed_stage see place.stage) (shown_over see place prefix)
-  passed_shown place prefix =
+  pub passed_shown : (onward : Stage → Stage) → IsOnward onward → (place : Standing) (prefix : List (Timed Event)) →
+      shown_over see (passed_over onward place prefix) prefix ≡ sight_on onward (retimed_stage see place.stage) (shown_over see place prefix)
+  passed_shown onward goes place prefix =
       let seen : Sight = sight_over place prefix in
+      let there : Stage = onward (pass place.stage seen).stage in
       let past : Sight = sight_past place.stage seen in
-      ap (λ v. shown_sight see (pass place.stage seen) v) (sight_passed place prefix)
-      ∙ (ap (λ n. (let there : Sight = record past { now = n } in there)) (moment_passed see place.stage seen past.now) ∙ past_retimed place.stage seen)
+      let shown : Sight = shown_sight see place.stage seen in
+      let to : Stage = onward (pass (retimed_stage see place.stage) shown).stage in
+      ap (λ v. shown_sight see there v) (sight_passed onward goes place prefix)
+      ∙ (ap (λ n. at_moment past n)
+      (ap (λ n. moment_at see there n) (past_now place.stage seen)
+      ∙ (now_seen see there seen.now
+      ∙ (ap (λ s. now_at s (see seen.now)) (passed_stage onward goes place.stage seen) ∙ now_led onward goes place.stage shown seen.now)))
+      ∙ past_retimed place.stage seen (now_at to shown.now))

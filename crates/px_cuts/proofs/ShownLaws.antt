@@ -26,8 +26,8 @@ use Rattle.px_exchange.specs.declared.taken.Taken.{Taken}
 use Rattle.px_exchange.specs.declared.taken.Taken.TheVariants.{GoesOn, Responds, Kills}
 use Rattle.px_exchange.specs.declared.place.Place.{Place}
 use Rattle.px_exchange.specs.declared.terms.Terms.{Terms}
-use Rattle.px_chain.specs.Chain.{behind, behind_flow, dial_leads, finish, finish_by, given_at, goes_on_by, killed, look, parked_for, pass, pass_body, so_far, turn, turn_answer, turn_answer_head, turn_body, turn_given_head, turn_head, turn_judged, turn_read_whole, turn_response, turn_returned, turn_taken_answer, turn_taken_body, turn_taken_given, turn_taken_head, turn_taken_returned, turn_taken_whole, turn_whole_answer}
-use Rattle.px_exchange.specs.Flows.{ask_of, response_of, with_answer, with_body, with_returned}
+use Rattle.px_chain.specs.Chain.{behind, behind_flow, dial_leads, finish, finish_by, given_at, goes_on_by, killed, look, look_coming, parked_for, pass, pass_body, pass_came, pass_kept, so_far, turn, turn_answer, turn_answer_head, turn_body, turn_given_head, turn_head, turn_judged, turn_read_whole, turn_response, turn_returned, turn_taken_answer, turn_taken_body, turn_taken_given, turn_taken_head, turn_taken_returned, turn_taken_whole, turn_whole_answer}
+use Rattle.px_exchange.specs.Flows.{ask_of, response_of, with_answer, with_body, with_end, with_returned}
 use Rattle.px_exchange.specs.Dials.{dial_owes}
 use Rattle.px_exchange.specs.Finds.{is_relayed, look_answer, look_answer_head, look_body, look_head, look_judged, look_returned, or_leaves}
 use Rattle.px_cuts.specs.Cuts.{retimed, retimed_flow}
@@ -35,9 +35,10 @@ use Rattle.px_exchange.specs.Endings.{closed_message, connection_goes_on, ends_b
 use Rattle.px_exchange.specs.Replies.{taken_at_request_body, taken_at_request_head, taken_at_response_head}
 use Rattle.px_exchange.specs.Requests.{expects, flow_of, is_head, is_http11, judged}
 use Rattle.px_cuts.specs.Shown.{retimed_sight, retimed_stage, shown_sight}
-use Rattle.px_chain.specs.Stages.{At, Parked, Stage, busy, connection, given_body, given_head, idle, next, over, request_body, response_body, response_head, unparked, upgraded}
+use Rattle.px_chain.specs.Stages.{At, Parked, Stage, busy, coming_down, connection, given_body, given_head, idle, next, over, request_body, response_body, response_head, unparked, upgraded, Sent}
 use Rattle.px_chain.specs.Sights.{Sight, answers_in, request_in, server_in, server_parked}
 use Rattle.px_exchange.specs.Texts.{interim_command}
+use Rattle.px_chain.specs.Coming.{Came, allowed_by, came_in, coming_text, finished_coming, goes_on_behind, streaming, streams_in}
 
 -- a look, a turn and a reply, their moments seen so
 abbrev pub retimed_look : (ℕ → ℕ) → Look Command → Look Command
@@ -145,6 +146,14 @@ module _ (see : ℕ → ℕ) where
   look_returned_seen flow (bad_head fault) moment used closed = refl
   look_returned_seen flow (bad_body fault head body) moment used closed = ap (λ l. Ends l) (ends_by_fault_seen flow fault moment used closed)
 
+  look_coming_seen : (flow : Flow) (item : Item ReadResponse) (moment : ℕ) (used : Used) (closed : Bool) →
+      retimed_look see (look_coming flow item moment used closed) ≡ look_coming (retimed_flow see flow) item (see moment) used closed
+  look_coming_seen flow missing moment used closed = refl
+  look_coming_seen flow (part head body) moment used closed = refl
+  look_coming_seen flow (complete head body trailers size) moment used closed = refl
+  look_coming_seen flow (bad_head fault) moment used closed = refl
+  look_coming_seen flow (bad_body fault head body) moment used closed = ap (λ l. Ends l) (ends_early_seen flow (fault_message fault) moment used closed)
+
   or_leaves_seen : (closed : Bool) (leaves : List Command) (l : Look Command) →
       retimed_look see (or_leaves closed leaves l) ≡ or_leaves closed (map (retimed see) leaves) (retimed_look see l)
   or_leaves_seen true leaves NotYet = refl
@@ -174,9 +183,12 @@ module _ (see : ℕ → ℕ) where
   look_shown terms (busy at flow (response_head side how)) seen =
       looked seen.closed _ _ _ _ (ends_early_seen flow closed_message seen.now (server_in side seen) true)
       (look_answer_seen flow (answers_in flow.request seen).final seen.now (server_in side seen) seen.closed)
-  look_shown terms (busy at flow (response_body side how)) seen =
+  look_shown terms (busy at flow (response_body side how most)) seen =
       looked seen.closed _ _ _ _ (ends_early_seen (without_response flow) closed_message seen.now (server_in side seen) true)
       (look_returned_seen flow (answers_in flow.request seen).final seen.now (server_in side seen) seen.closed)
+  look_shown terms (busy at flow (coming_down side how)) seen =
+      looked seen.closed _ _ _ _ (ends_early_seen flow closed_message seen.now (server_in side seen) true)
+      (look_coming_seen flow (answers_in flow.request seen).final seen.now (server_in side seen) seen.closed)
   look_shown terms (busy at flow (upgraded side)) seen = refl
   look_shown terms (busy at flow given_head) seen = refl
   look_shown terms (busy at flow given_body) seen = refl
@@ -199,7 +211,8 @@ module _ (see : ℕ → ℕ) where
   so_far_shown (busy at flow (request_body given)) seen = refl
   so_far_shown (busy at flow connection) seen = refl
   so_far_shown (busy at flow (response_head side how)) seen = interim_by (is_http11 flow.request.version) (answers_in flow.request seen).interim
-  so_far_shown (busy at flow (response_body side how)) seen = refl
+  so_far_shown (busy at flow (response_body side how most)) seen = refl
+  so_far_shown (busy at flow (coming_down side how)) seen = refl
   so_far_shown (busy at flow (upgraded side)) seen = refl
   so_far_shown (busy at flow given_head) seen = refl
   so_far_shown (busy at flow given_body) seen = refl
@@ -213,35 +226,13 @@ module _ (see : ℕ → ℕ) where
   behind_shown (busy at flow (request_body given)) seen = refl
   behind_shown (busy at flow connection) seen = shut_server_seen (server_parked at.parked seen) ∙ ap (λ u. shut_server u) (parked_seen at.parked seen)
   behind_shown (busy at flow (response_head side how)) seen = refl
-  behind_shown (busy at flow (response_body side how)) seen = refl
+  behind_shown (busy at flow (response_body side how most)) seen = refl
+  behind_shown (busy at flow (coming_down side how)) seen = refl
   behind_shown (busy at flow (upgraded side)) seen = refl
   behind_shown (busy at flow given_head) seen = refl
   behind_shown (busy at flow given_body) seen = refl
   behind_shown (next at) seen = refl
   behind_shown over seen = refl
-
-  -- ---- where it passes
-
-  passed_seen : (at : At) (flow : Flow) (given : Option Response) (item : Item ReadRequest) (now : ℕ) →
-      retimed_stage see (pass_body at flow given item now) ≡ pass_body at (retimed_flow see flow) given item (see now)
-  passed_seen at flow None item now = refl
-  passed_seen at flow (Some response) missing now = refl
-  passed_seen at flow (Some response) (part head body) now = refl
-  passed_seen at flow (Some response) (complete head body trailers used) now = refl
-  passed_seen at flow (Some response) (bad_head fault) now = refl
-  passed_seen at flow (Some response) (bad_body fault head body) now = refl
-
-  pub pass_shown : (stage : Stage) (seen : Sight) → retimed_stage see (pass stage seen) ≡ pass (retimed_stage see stage) (shown_sight see stage seen)
-  pass_shown (idle at) seen = refl
-  pass_shown (busy at flow (request_body given)) seen = passed_seen at flow given (request_in seen) seen.now
-  pass_shown (busy at flow connection) seen = refl
-  pass_shown (busy at flow (response_head side how)) seen = refl
-  pass_shown (busy at flow (response_body side how)) seen = refl
-  pass_shown (busy at flow (upgraded side)) seen = refl
-  pass_shown (busy at flow given_head) seen = refl
-  pass_shown (busy at flow given_body) seen = refl
-  pass_shown (next at) seen = refl
-  pass_shown over seen = refl
 
   -- ---- where it turns
 
@@ -322,28 +313,28 @@ module _ (see : ℕ → ℕ) where
   dial_leads_seen to at flow reply.Kill = refl
   dial_leads_seen to at flow reply.Discard = refl
 
-  taken_answer_seen : (at : At) (flow : Flow) (side : ℕ) (taken : Taken Response) (moment : ℕ) (used : Used) (closed : Bool) →
-      retimed_turn see (turn_taken_answer at flow side taken moment used closed)
-      ≡ turn_taken_answer at (retimed_flow see flow) side taken (see moment) used closed
-  taken_answer_seen at flow side (GoesOn response) moment used closed = refl
-  taken_answer_seen at flow side (Responds response) moment used closed = killed_seen (without_response flow) moment used closed
-  taken_answer_seen at flow side Kills moment used closed = killed_seen (without_response flow) moment used closed
+  taken_answer_seen : (at : At) (flow : Flow) (side : ℕ) (most : Option ℕ) (taken : Taken Response) (moment : ℕ) (used : Used) (closed : Bool) →
+      retimed_turn see (turn_taken_answer at flow side most taken moment used closed)
+      ≡ turn_taken_answer at (retimed_flow see flow) side most taken (see moment) used closed
+  taken_answer_seen at flow side most (GoesOn response) moment used closed = refl
+  taken_answer_seen at flow side most (Responds response) moment used closed = killed_seen (without_response flow) moment used closed
+  taken_answer_seen at flow side most Kills moment used closed = killed_seen (without_response flow) moment used closed
 
-  answer_head_turn_seen : (at : At) (flow : Flow) (side : ℕ) (head : ReadResponse) (seen : Sight) (answer : Timed Reply) →
-      retimed_turn see (turn_answer_head at flow side head seen answer)
-      ≡ turn_answer_head at (retimed_flow see flow) side head (retimed_sight see seen) (retimed_reply see answer)
-  answer_head_turn_seen at flow side head seen answer =
-      taken_answer_seen at (with_answer flow (response_of head) seen.now) side
+  answer_head_turn_seen : (terms : Terms) (at : At) (flow : Flow) (side : ℕ) (head : ReadResponse) (seen : Sight) (answer : Timed Reply) →
+      retimed_turn see (turn_answer_head terms at flow side head seen answer)
+      ≡ turn_answer_head terms at (retimed_flow see flow) side head (retimed_sight see seen) (retimed_reply see answer)
+  answer_head_turn_seen terms at flow side head seen answer =
+      taken_answer_seen at (with_answer flow (response_of head) seen.now) side (allowed_by terms.streams answer.value)
       (taken_at_response_head (response_of head) answer.value) answer.moment (server_in side seen) seen.closed
 
-  answer_turn_seen : (at : At) (flow : Flow) (side : ℕ) (item : Item ReadResponse) (seen : Sight) (answer : Timed Reply) →
-      retimed_turn see (turn_answer at flow side item seen answer)
-      ≡ turn_answer at (retimed_flow see flow) side item (retimed_sight see seen) (retimed_reply see answer)
-  answer_turn_seen at flow side missing seen answer = refl
-  answer_turn_seen at flow side (part head body) seen answer = answer_head_turn_seen at flow side head seen answer
-  answer_turn_seen at flow side (complete head body trailers size) seen answer = answer_head_turn_seen at flow side head seen answer
-  answer_turn_seen at flow side (bad_head fault) seen answer = refl
-  answer_turn_seen at flow side (bad_body fault head body) seen answer = answer_head_turn_seen at flow side head seen answer
+  answer_turn_seen : (terms : Terms) (at : At) (flow : Flow) (side : ℕ) (item : Item ReadResponse) (seen : Sight) (answer : Timed Reply) →
+      retimed_turn see (turn_answer terms at flow side item seen answer)
+      ≡ turn_answer terms at (retimed_flow see flow) side item (retimed_sight see seen) (retimed_reply see answer)
+  answer_turn_seen terms at flow side missing seen answer = refl
+  answer_turn_seen terms at flow side (part head body) seen answer = answer_head_turn_seen terms at flow side head seen answer
+  answer_turn_seen terms at flow side (complete head body trailers size) seen answer = answer_head_turn_seen terms at flow side head seen answer
+  answer_turn_seen terms at flow side (bad_head fault) seen answer = refl
+  answer_turn_seen terms at flow side (bad_body fault head body) seen answer = answer_head_turn_seen terms at flow side head seen answer
 
   shut_unless_seen : (stays : Bool) (parked : Used) (closed : Bool) → map (retimed see) (shut_unless stays parked closed) ≡ shut_unless stays parked closed
   shut_unless_seen true parked closed = refl
@@ -438,9 +429,10 @@ module _ (see : ℕ → ℕ) where
   turn_shown terms (busy at flow connection) seen answer =
       turning_eq _ _ _ _ (dial_owes_seen terms.place flow at.dials answer.value answer.moment seen.closed) (dial_leads_seen terms.place at flow answer.value)
   turn_shown terms (busy at flow (response_head side how)) seen answer =
-      answer_turn_seen at flow side (answers_in flow.request seen).final seen answer
-  turn_shown terms (busy at flow (response_body side how)) seen answer =
+      answer_turn_seen terms at flow side (answers_in flow.request seen).final seen answer
+  turn_shown terms (busy at flow (response_body side how most)) seen answer =
       returned_turn_seen at flow side (answers_in flow.request seen).final seen answer
+  turn_shown terms (busy at flow (coming_down side how)) seen answer = refl
   turn_shown terms (busy at flow (upgraded side)) seen answer = refl
   turn_shown terms (busy at flow given_head) seen answer =
       given_turn_seen at (given_at flow seen.now) answer (server_parked at.parked seen) seen.closed
@@ -450,3 +442,46 @@ module _ (see : ℕ → ℕ) where
       ∙ ap (λ u. turn_whole_answer at (retimed_flow see flow) (retimed_reply see answer) u seen.closed) (parked_seen at.parked seen)
   turn_shown terms (next at) seen answer = refl
   turn_shown terms over seen answer = refl
+
+  -- ---- where it passes
+
+  passed_seen : (at : At) (flow : Flow) (given : Option Response) (item : Item ReadRequest) (now : ℕ) →
+      retimed_stage see (pass_body at flow given item now) ≡ pass_body at (retimed_flow see flow) given item (see now)
+  passed_seen at flow None item now = refl
+  passed_seen at flow (Some response) missing now = refl
+  passed_seen at flow (Some response) (part head body) now = refl
+  passed_seen at flow (Some response) (complete head body trailers used) now = refl
+  passed_seen at flow (Some response) (bad_head fault) now = refl
+  passed_seen at flow (Some response) (bad_body fault head body) now = refl
+
+  -- a streamed response that is whole, or is not
+  came_shown : (at : At) (flow : Flow) (side : ℕ) (how : Sent) (seen : Sight) (came : Option Came) →
+      retimed_turn see (pass_came at flow side how seen came) ≡ pass_came at (retimed_flow see flow) side how (retimed_sight see seen) came
+  came_shown at flow side how seen None = refl
+  came_shown at flow side how seen (Some came) =
+      let stays : Bool = goes_on_behind at.flow flow.request came in
+      let used : Used = server_in side seen in
+      turning_eq _ _ _ _
+      (map-append (retimed see) (finished_coming flow seen used) (shut_unless stays NoServer seen.closed)
+      ∙ (ap (λ l. (commands.Send Client (coming_text flow seen) ∷ commands.Done (with_end (retimed_flow see flow) (see seen.now)) ∷ l)
+      ++ map (retimed see) (shut_unless stays NoServer seen.closed)) (shut_server_seen used)
+      ∙ ap (λ l. finished_coming (retimed_flow see flow) (retimed_sight see seen) used ++ l) (shut_unless_seen stays NoServer seen.closed)))
+      (behind_seen stays (unparked at))
+
+  kept_shown : (streams : Bool) (at : At) (flow : Flow) (side : ℕ) (how : Sent) (most : Option ℕ) (seen : Sight) →
+      retimed_turn see (pass_kept streams at flow side how most seen) ≡ pass_kept streams at (retimed_flow see flow) side how most (retimed_sight see seen)
+  kept_shown true at flow side how most seen = came_shown at (streaming flow) side how seen (came_in (streaming flow) seen)
+  kept_shown false at flow side how most seen = refl
+
+  pub pass_shown : (stage : Stage) (seen : Sight) → retimed_turn see (pass stage seen) ≡ pass (retimed_stage see stage) (shown_sight see stage seen)
+  pass_shown (idle at) seen = refl
+  pass_shown (busy at flow (request_body given)) seen = turning_eq [] [] _ _ refl (passed_seen at flow given (request_in seen) seen.now)
+  pass_shown (busy at flow connection) seen = refl
+  pass_shown (busy at flow (response_head side how)) seen = refl
+  pass_shown (busy at flow (response_body side how most)) seen = kept_shown (streams_in flow most seen) at flow side how most seen
+  pass_shown (busy at flow (coming_down side how)) seen = came_shown at flow side how seen (came_in flow seen)
+  pass_shown (busy at flow (upgraded side)) seen = refl
+  pass_shown (busy at flow given_head) seen = refl
+  pass_shown (busy at flow given_body) seen = refl
+  pass_shown (next at) seen = refl
+  pass_shown over seen = refl

@@ -1,6 +1,6 @@
 -- What is found stays found with a piece more, by the laws of the readers: an event that waits is heard early.
 use Rattle.std.proofs.Common.{◌≡◌, ℕ, ◌≤◌, Bool, true, false, List, ◌++◌, drop, length, Option, Some, None, refl, ap, sym, ◌∙◌, subst, arith}
-use Rattle.std.specs.Prelude.{◌||◌}
+use Rattle.std.specs.Prelude.{◌||◌, [], ◌∷◌}
 use Rattle.std.proofs.lemmas.List.{drop-append-le, length-drop}
 use Rattle.px_message.specs.declared.flow.Flow.{Flow}
 use Rattle.px_message.specs.declared.request.Request.{Request}
@@ -11,7 +11,7 @@ use Rattle.px_event.specs.declared.event.Event.TheVariants as events
 use Rattle.px_event.specs.declared.reply.Reply.{Reply}
 use Rattle.px_event.specs.declared.side.Side.{Side}
 use Rattle.px_event.specs.declared.side.Side.TheVariants.{Client, Server}
-use Rattle.px_event.specs.Chain.{Timed, Look, NotYet, Asks, Ends}
+use Rattle.px_event.specs.Chain.{Timed, Look, NotYet, Asks, Ends, Turn}
 use Rattle.px_event.specs.Laws.{IsFound}
 use Rattle.px_read.specs.Items.{answer_list, Answers, Body, Item, missing, part, complete, bad_head, bad_body, request_item}
 use Rattle.px_read.specs.Laws.{FinalHeadStays, FinalStays, head_in, InterimStay, is_begun, is_decided, RequestHeadStays, RequestStays}
@@ -23,23 +23,26 @@ use Rattle.px_read.proofs.LawLemmas.{chunk_laws}
 use Rattle.px_exchange.specs.declared.asked.Judged.{Judged}
 use Rattle.px_exchange.specs.declared.asked.Judged.TheVariants.{Refused, Accepted, Connects}
 use Rattle.px_exchange.specs.declared.ending.Used.{Used}
-use Rattle.px_exchange.specs.declared.ending.Used.TheVariants.{ByServer}
+use Rattle.px_exchange.specs.declared.ending.Used.TheVariants.{ByServer, NoServer}
 use Rattle.px_exchange.specs.declared.place.Place.{Place}
 use Rattle.px_exchange.specs.declared.taken.Taken.{Taken}
 use Rattle.px_exchange.specs.declared.taken.Taken.TheVariants.{GoesOn, Responds, Kills}
 use Rattle.px_exchange.specs.declared.terms.Terms.{Terms}
 use Rattle.px_exchange.specs.Finds.{look_answer, look_answer_head, look_body, look_head, look_judged, look_returned, or_leaves}
 use Rattle.px_cuts.specs.Shown.{hears}
-use Rattle.px_cuts.proofs.PlaceLaws.{LeavesMore}
+use Rattle.px_cuts.proofs.PlaceLaws.{LeavesMore, busy_on, now_at, sight_on}
 use Rattle.px_exchange.specs.Requests.{expects, flow_of, is_head, judged}
-use Rattle.px_chain.specs.Chain.{behind, given_at, killed, look, pass, pass_body, sight_past, so_far, turn, turn_answer, turn_answer_head, turn_body, turn_given_head, turn_head, turn_judged, turn_returned, turn_taken_body, turn_taken_head, turn_whole_answer}
+use Rattle.px_chain.specs.Chain.{IsOnward, behind, behind_flow, given_at, goes_to, killed, look, look_coming, pass, pass_body, pass_came, pass_kept, past_came, past_kept, sight_past, so_far, turn, turn_answer, turn_answer_head, turn_body, turn_given_head, turn_head, turn_judged, turn_returned, turn_taken_body, turn_taken_head, turn_whole_answer}
 use Rattle.px_chain.specs.Sights.{Sight, left_by, server_parked, server_with, shut_with}
-use Rattle.px_chain.specs.Stages.{At, Parked, Stage, busy, connection, given_body, given_head, idle, next, over, request_body, response_body, response_head, side_of, side_parked, upgraded}
+use Rattle.px_chain.specs.Stages.{At, Parked, Stage, busy, coming_down, connection, given_body, given_head, idle, next, over, request_body, response_body, response_head, side_of, side_parked, upgraded, Doing, Sent, unparked}
 use Rattle.px_event.specs.Sides.{piece_of}
-use Rattle.px_exchange.specs.Flows.{with_body}
+use Rattle.px_exchange.specs.Flows.{with_body, with_end}
 use Rattle.px_exchange.specs.Replies.{taken_at_request_body, taken_at_request_head}
 use Rattle.px_exchange.specs.Texts.{interim_commands}
-use Rattle.px_exchange.specs.Endings.{closed_message, ends_early, shut_server, without_response}
+use Rattle.px_exchange.specs.Endings.{closed_message, ends_early, shut_server, without_response, shut_unless}
+use Rattle.px_event.specs.declared.command.Command.TheVariants as commands
+use Rattle.px_chain.specs.Coming.{Came, came_by, came_in, coming_by, coming_text, goes_on_behind, streaming, streams_by, streams_in}
+use Rattle.px_cuts.proofs.ComingLaws.{came_stays, final_same, streams_stay, text_stays}
 
 -- the laws of the readers: what stands stays, whatever follows
 pub record ReadersStay : Type 0 where
@@ -139,19 +142,19 @@ look_answer_same : (flow : Flow) (item later : Item ReadResponse) (now : ℕ) (u
 look_answer_same flow item later now used closed (same is) = ap (λ i. look_answer flow i now used closed) is
 look_answer_same flow item later now used closed (heads head is at) = answer_looked flow later head now used closed at ∙ sym (answer_looked flow item head now used closed is)
 
-answer_led : (at : At) (flow : Flow) (side : ℕ) (item : Item ReadResponse) (head : ReadResponse) (seen : Sight) (answer : Timed Reply) → head_in item ≡ Some head →
-    turn_answer at flow side item seen answer ≡ turn_answer_head at flow side head seen answer
-answer_led at flow side missing head seen answer is = none_is head is
-answer_led at flow side (part h body) head seen answer is = ap (λ k. turn_answer_head at flow side k seen answer) (some_is h head is)
-answer_led at flow side (complete h body trailers size) head seen answer is = ap (λ k. turn_answer_head at flow side k seen answer) (some_is h head is)
-answer_led at flow side (bad_head fault) head seen answer is = none_is head is
-answer_led at flow side (bad_body fault h body) head seen answer is = ap (λ k. turn_answer_head at flow side k seen answer) (some_is h head is)
+answer_led : (terms : Terms) (at : At) (flow : Flow) (side : ℕ) (item : Item ReadResponse) (head : ReadResponse) (seen : Sight) (answer : Timed Reply) → head_in item ≡ Some head →
+    turn_answer terms at flow side item seen answer ≡ turn_answer_head terms at flow side head seen answer
+answer_led terms at flow side missing head seen answer is = none_is head is
+answer_led terms at flow side (part h body) head seen answer is = ap (λ k. turn_answer_head terms at flow side k seen answer) (some_is h head is)
+answer_led terms at flow side (complete h body trailers size) head seen answer is = ap (λ k. turn_answer_head terms at flow side k seen answer) (some_is h head is)
+answer_led terms at flow side (bad_head fault) head seen answer is = none_is head is
+answer_led terms at flow side (bad_body fault h body) head seen answer is = ap (λ k. turn_answer_head terms at flow side k seen answer) (some_is h head is)
 
-answer_turn_same : (at : At) (flow : Flow) (side : ℕ) (item later : Item ReadResponse) (seen : Sight) (answer : Timed Reply) → SameHead item later →
-    turn_answer at flow side later seen answer ≡ turn_answer at flow side item seen answer
-answer_turn_same at flow side item later seen answer (same is) = ap (λ i. turn_answer at flow side i seen answer) is
-answer_turn_same at flow side item later seen answer (heads head is there) =
-    answer_led at flow side later head seen answer there ∙ sym (answer_led at flow side item head seen answer is)
+answer_turn_same : (terms : Terms) (at : At) (flow : Flow) (side : ℕ) (item later : Item ReadResponse) (seen : Sight) (answer : Timed Reply) → SameHead item later →
+    turn_answer terms at flow side later seen answer ≡ turn_answer terms at flow side item seen answer
+answer_turn_same terms at flow side item later seen answer (same is) = ap (λ i. turn_answer terms at flow side i seen answer) is
+answer_turn_same terms at flow side item later seen answer (heads head is there) =
+    answer_led terms at flow side later head seen answer there ∙ sym (answer_led terms at flow side item head seen answer is)
 
 answer_found : (flow : Flow) (item later : Item ReadResponse) (now : ℕ) (used : Used) (closed : Bool) → Stays item later → IsFound (look_answer flow item now used closed) → SameHead item later
 answer_found flow missing later now used closed stays found = absurd found
@@ -190,6 +193,30 @@ returned_begun flow (part head body) now used closed found = absurd found
 returned_begun flow (complete head body trailers size) now used closed found = refl
 returned_begun flow (bad_head fault) now used closed found = absurd found
 returned_begun flow (bad_body fault head body) now used closed found = refl
+
+-- of one that is streamed a fault alone is found
+coming_decided : (flow : Flow) (item : Item ReadResponse) (now : ℕ) (used : Used) (closed : Bool) → IsFound (look_coming flow item now used closed) → is_decided item ≡ true
+coming_decided flow missing now used closed found = absurd found
+coming_decided flow (part head body) now used closed found = absurd found
+coming_decided flow (complete head body trailers size) now used closed found = refl
+coming_decided flow (bad_head fault) now used closed found = refl
+coming_decided flow (bad_body fault head body) now used closed found = refl
+
+returned_decided : (flow : Flow) (item : Item ReadResponse) (now : ℕ) (used : Used) (closed : Bool) → IsFound (look_returned flow item now used closed) → is_decided item ≡ true
+returned_decided flow missing now used closed found = absurd found
+returned_decided flow (part head body) now used closed found = absurd found
+returned_decided flow (complete head body trailers size) now used closed found = refl
+returned_decided flow (bad_head fault) now used closed found = refl
+returned_decided flow (bad_body fault head body) now used closed found = refl
+
+-- and one that came is whole
+pub came_decided : (given : Option Response) (item : Item ReadResponse) (came : Came) → came_by given item ≡ Some came → is_decided item ≡ true
+came_decided None item came is = none_is came is
+came_decided (Some response) missing came is = none_is came is
+came_decided (Some response) (part head body) came is = none_is came is
+came_decided (Some response) (complete head body trailers size) came is = refl
+came_decided (Some response) (bad_head fault) came is = none_is came is
+came_decided (Some response) (bad_body fault head body) came is = none_is came is
 
 -- ---- a place where something is found, and one that heard a piece more
 
@@ -260,12 +287,12 @@ module _ (client client' : List ℕ) (closed : Bool) (server server' : List ℕ)
   abbrev before : Sight
   before = make client' closed server' shut now
 
-  answer_reads : (item : Item ReadResponse) → turn_answer at flow side item longer answer ≡ turn_answer at flow side item before answer
-  answer_reads missing = refl
-  answer_reads (part head body) = refl
-  answer_reads (complete head body trailers size) = refl
-  answer_reads (bad_head fault) = refl
-  answer_reads (bad_body fault head body) = refl
+  answer_reads : (terms : Terms) (item : Item ReadResponse) → turn_answer terms at flow side item longer answer ≡ turn_answer terms at flow side item before answer
+  answer_reads terms missing = refl
+  answer_reads terms (part head body) = refl
+  answer_reads terms (complete head body trailers size) = refl
+  answer_reads terms (bad_head fault) = refl
+  answer_reads terms (bad_body fault head body) = refl
 
   returned_reads : (item : Item ReadResponse) → turn_returned at flow side item longer answer ≡ turn_returned at flow side item before answer
   returned_reads missing = refl
@@ -362,7 +389,7 @@ module _ (terms : Terms) (readers : ReadersStay) (side : Side) (bytes : List ℕ
     so_far = refl;
     behind = refl;
     turn = λ answer.
-        answer_reads (client ++ piece_of Client piece) client false server server true now answer at flow own (answer_list (is_head flow.request.method) true server).final;
+        answer_reads (client ++ piece_of Client piece) client false server server true now answer at flow own terms (answer_list (is_head flow.request.method) true server).final;
   }
   finds_by (busy at flow (response_head own how)) client server false now found =
       let asked_head = is_head flow.request.method in
@@ -377,17 +404,17 @@ module _ (terms : Terms) (readers : ReadersStay) (side : Side) (bytes : List ℕ
         look = ap (λ l. or_leaves false (ends_early flow closed_message now used true) l) (look_answer_same flow item later now used false heads);
         so_far = ap (λ l. interim_commands flow.request l) (interim_stays readers asked_head server more (answer_begun flow item now used false there));
         behind = refl;
-        turn = λ answer. answer_turn_same at flow own item later (make longer false (server ++ more) false now) answer heads
-            ∙ answer_reads longer client false (server ++ more) server false now answer at flow own item;
+        turn = λ answer. answer_turn_same terms at flow own item later (make longer false (server ++ more) false now) answer heads
+            ∙ answer_reads longer client false (server ++ more) server false now answer at flow own terms item;
       }
-  finds_by (busy at flow (response_body own how)) client server true now found = record {
+  finds_by (busy at flow (response_body own how most)) client server true now found = record {
     look = refl;
     so_far = refl;
     behind = refl;
     turn = λ answer.
         returned_reads (client ++ piece_of Client piece) client false server server true now answer at flow own (answer_list (is_head flow.request.method) true server).final;
   }
-  finds_by (busy at flow (response_body own how)) client server false now found =
+  finds_by (busy at flow (response_body own how most)) client server false now found =
       let asked_head = is_head flow.request.method in
       let longer = client ++ piece_of Client piece in
       let more = piece_of (Server own) piece in
@@ -402,6 +429,19 @@ module _ (terms : Terms) (readers : ReadersStay) (side : Side) (bytes : List ℕ
         behind = refl;
         turn = λ answer. ap (λ i. turn_returned at flow own i (make longer false (server ++ more) false now) answer) whole
             ∙ returned_reads longer client false (server ++ more) server false now answer at flow own item;
+      }
+  finds_by (busy at flow (coming_down own how)) client server true now found = record { look = refl; so_far = refl; behind = refl; turn = λ answer. refl }
+  finds_by (busy at flow (coming_down own how)) client server false now found =
+      let more = piece_of (Server own) piece in
+      let item = (answer_list (is_head flow.request.method) false server).final in
+      let used : Used = ByServer own false in
+      let leaves = ends_early flow closed_message now used true in
+      let decided = coming_decided flow item now used false (or_found leaves (look_coming flow item now used false) found) in
+      record {
+        look = ap (λ i. or_leaves false leaves (look_coming flow i now used false)) (final_same flow.request server more decided);
+        so_far = ap (λ text. (let one : List Command = commands.Send Client text ∷ [] in one)) (text_stays flow.request server more decided flow.response);
+        behind = refl;
+        turn = λ answer. refl;
       }
   finds_by (busy at flow (upgraded own)) client server shut now found = record { look = refl; so_far = refl; behind = refl; turn = λ answer. refl }
   finds_by (busy at flow given_head) client server shut now found = record {
@@ -470,14 +510,15 @@ module _ (terms : Terms) (readers : ReadersStay) (side : Side) (bytes : List ℕ
       record { client = request_leaves at flow given client server shut now found; server = refl }
   leaves_by (busy at flow connection) client server shut now late found = record { client = refl; server = refl }
   leaves_by (busy at flow (response_head own how)) client server shut now late found = record { client = refl; server = refl }
-  leaves_by (busy at flow (response_body own how)) client server true now late found = record { client = refl; server = refl }
-  leaves_by (busy at flow (response_body own how)) client server false now late found =
+  leaves_by (busy at flow (response_body own how most)) client server true now late found = record { client = refl; server = refl }
+  leaves_by (busy at flow (response_body own how most)) client server false now late found =
       let item = (answer_list (is_head flow.request.method) false server).final in
       record {
         client = refl;
         server = server_leaves flow own server now
             (or_found (ends_early (without_response flow) closed_message now (ByServer own false) true) (look_returned flow item now (ByServer own false) false) found);
       }
+  leaves_by (busy at flow (coming_down own how)) client server shut now late found = record { client = refl; server = refl }
   leaves_by (busy at flow (upgraded own)) client server shut now late found = record { client = refl; server = refl }
   leaves_by (busy at flow given_head) client server shut now late found = record { client = refl; server = refl }
   leaves_by (busy at flow given_body) client server shut now late found = record { client = refl; server = refl }
@@ -517,44 +558,183 @@ module _ (terms : Terms) (readers : ReadersStay) (side : Side) (bytes : List ℕ
 
   -- the request stays that is awaited where a response is given
   passed_item : (at : At) (flow : Flow) (response : Response) (client server : List ℕ) (shut : Bool) (now : ℕ) →
-      IsFound (look terms (pass (busy at flow (request_body (Some response))) (make client false server shut now)) (past_body at flow response client server shut now)) →
+      IsFound (look terms (pass_body at flow (Some response) (request_item client) now) (past_body at flow response client server shut now)) →
       request_item (client ++ piece_of Client piece) ≡ request_item client
   passed_item at flow response client server shut now found =
       pass_body_stays at flow response client (request_item client) (request_item (client ++ piece_of Client piece)) server shut now refl
       (request_stays readers client (piece_of Client piece)) found
 
+  body_side : (at : At) (flow : Flow) (response : Response) (item : Item ReadRequest) (now : ℕ) → side_of (pass_body at flow (Some response) item now) ≡ side_parked at.parked
+  body_side at flow response missing now = refl
+  body_side at flow response (part head body) now = refl
+  body_side at flow response (complete head body trailers used) now = refl
+  body_side at flow response (bad_head fault) now = refl
+  body_side at flow response (bad_body fault head body) now = refl
+
   -- what passing does with the piece is what it does without it
   pub record PassesWith (stage : Stage) (v : Sight) : Type 0 where
     pub stays : pass stage (hears (side_of stage) v piece) ≡ pass stage v
-    pub leaves : sight_past stage (hears (side_of stage) v piece) ≡ hears (side_of stage) (sight_past stage v) piece
+    pub leaves : sight_past stage (hears (side_of stage) v piece) ≡ hears (side_of (pass stage v).stage) (sight_past stage v) piece
 
-  passes_by : (stage : Stage) (client server : List ℕ) (shut : Bool) (now : ℕ) →
-      IsFound (look terms (pass stage (make client false server shut now)) (sight_past stage (make client false server shut now))) →
-      PassesWith stage (make client false server shut now)
-  passes_by (idle at) client server shut now found = record { stays = refl; leaves = refl }
-  passes_by (busy at flow (request_body None)) client server shut now found = record { stays = refl; leaves = refl }
-  passes_by (busy at flow (request_body (Some response))) client server shut now found =
-      let side : Option ℕ = side_parked at.parked in
-      let more = piece_of Client piece in
-      let same = passed_item at flow response client server shut now found in
-      record {
-        stays = ap (λ i. pass_body at flow (Some response) i now) same;
-        leaves = ap (λ l. make l false (server_with side shut server piece) (shut_with side shut piece) now)
-            (ap (λ i. left_by i (client ++ more)) same
-            ∙ left_more (request_item client) client more (λ head body trailers size is. (request_used chunk_laws client head body trailers size is).1));
-      }
-  passes_by (busy at flow connection) client server shut now found = record { stays = refl; leaves = refl }
-  passes_by (busy at flow (response_head own how)) client server shut now found = record { stays = refl; leaves = refl }
-  passes_by (busy at flow (response_body own how)) client server shut now found = record { stays = refl; leaves = refl }
-  passes_by (busy at flow (upgraded own)) client server shut now found = record { stays = refl; leaves = refl }
-  passes_by (busy at flow given_head) client server shut now found = record { stays = refl; leaves = refl }
-  passes_by (busy at flow given_body) client server shut now found = record { stays = refl; leaves = refl }
-  passes_by (next at) client server shut now found = record { stays = refl; leaves = refl }
-  passes_by over client server shut now found = record { stays = refl; leaves = refl }
+  -- of a response the same is told, by the bytes of its server's side
+  pub record TellsSame (message : Request) (shut : Bool) (server : List ℕ) (later_shut : Bool) (later : List ℕ) : Type 0 where
+    streams : (given : Option Response) (allowed : Option ℕ) → streams_by given message allowed later_shut later ≡ streams_by given message allowed shut server
+    text : (given : Option Response) → coming_by given (head_in (answer_list (is_head message.method) later_shut later).final) message later_shut later
+        ≡ coming_by given (head_in (answer_list (is_head message.method) shut server).final) message shut server
+    came : (given : Option Response) → came_by given (answer_list (is_head message.method) later_shut later).final ≡ came_by given (answer_list (is_head message.method) shut server).final
 
-  -- Where something is found behind passing, it passes with the piece as without it, and leaves the piece.
-  pub passes_with : (stage : Stage) (v : Sight) → v.closed ≡ false → IsFound (look terms (pass stage v) (sight_past stage v)) → PassesWith stage v
-  passes_with stage v open_client found =
-      let P : Bool → Type 0 = λ b. IsFound (look terms (pass stage (make v.client b v.server v.shut v.now)) (sight_past stage (make v.client b v.server v.shut v.now))) →
-      PassesWith stage (make v.client b v.server v.shut v.now) in
-      subst P (sym open_client) (passes_by stage v.client v.server v.shut v.now) found
+  pub tells_same : (message : Request) (own : ℕ) (server : List ℕ) (shut : Bool) → (shut ≡ false → is_decided (answer_list (is_head message.method) false server).final ≡ true) →
+      TellsSame message shut server (shut_with (Some own) shut piece) (server_with (Some own) shut server piece)
+  tells_same message own server true decided = record { streams = λ given allowed. refl; text = λ given. refl; came = λ given. refl }
+  tells_same message own server false decided = record {
+    streams = λ given allowed. streams_stay message server (piece_of (Server own) piece) (decided refl) given allowed;
+    text = λ given. text_stays message server (piece_of (Server own) piece) (decided refl) given;
+    came = λ given. came_stays message server (piece_of (Server own) piece) (decided refl) given;
+  }
+
+  module _ (at : At) (own : ℕ) (how : Sent) (client server : List ℕ) (shut : Bool) (now : ℕ) where
+    abbrev without_it : Sight
+    without_it = make client false server shut now
+
+    abbrev with_it : Sight
+    with_it = hears (Some own) without_it piece
+
+    -- what passes is told by the text, the closes and the moment
+    abbrev came_turn : Flow → List ℕ → Bool → Came → Turn Stage Command
+    came_turn flow text its_shut came =
+        let goes_on : Bool = goes_on_behind at.flow flow.request came in record {
+          owed = (commands.Send Client text ∷ commands.Done (with_end flow now) ∷ shut_server (ByServer own its_shut)) ++ shut_unless goes_on NoServer false;
+          stage = behind_flow goes_on (unparked at);
+        }
+
+    came_reads : (flow : Flow) (came : Option Came) → coming_text flow with_it ≡ coming_text flow without_it → pass_came at flow own how with_it came ≡ pass_came at flow own how without_it came
+    came_reads flow None text = refl
+    came_reads flow (Some came) text =
+        ap (λ t. came_turn flow t (shut_with (Some own) shut piece) came) text ∙ ap (λ b. came_turn flow (coming_text flow without_it) b came) (still_open shut)
+
+    none_behind : (goes_on : Bool) (side : At) → side_of (behind_flow goes_on (unparked side)) ≡ None
+    none_behind true side = refl
+    none_behind false side = refl
+
+    came_leaves : (flow : Flow) (came : Option Came) →
+        past_came came with_it ≡ hears (side_of (pass_came at flow own how without_it came).stage) (past_came came without_it) piece
+    came_leaves flow None = refl
+    came_leaves flow (Some came) =
+        ap (λ side. hears side (past_came (Some came) without_it) piece) (sym (none_behind (goes_on_behind at.flow flow.request came) at))
+
+    -- one that came
+    pub came_passes : (flow : Flow) → TellsSame flow.request shut server (shut_with (Some own) shut piece) (server_with (Some own) shut server piece) →
+        PassesWith (busy at flow (coming_down own how)) without_it
+    came_passes flow tells = record {
+      stays = ap (λ c. pass_came at flow own how with_it c) (tells.came flow.response) ∙ came_reads flow (came_in flow without_it) (tells.text flow.response);
+      leaves = ap (λ c. past_came c with_it) (tells.came flow.response) ∙ came_leaves flow (came_in flow without_it);
+    }
+
+    kept_by : (flow : Flow) (most : Option ℕ) (streams : Bool) → TellsSame flow.request shut server (shut_with (Some own) shut piece) (server_with (Some own) shut server piece) →
+        (pass_kept streams at flow own how most with_it ≡ pass_kept streams at flow own how most without_it)
+        × (past_kept streams (came_in (streaming flow) with_it) with_it
+        ≡ hears (side_of (pass_kept streams at flow own how most without_it).stage) (past_kept streams (came_in (streaming flow) without_it) without_it) piece)
+    kept_by flow most true tells =
+        let passes : PassesWith (busy at (streaming flow) (coming_down own how)) without_it =
+        came_passes (streaming flow) (record { streams = tells.streams; text = tells.text; came = tells.came }) in (passes.stays, passes.leaves)
+    kept_by flow most false tells = (refl, refl)
+
+    -- or one of which it is not told yet whether it is streamed
+    pub kept_passes : (flow : Flow) (most : Option ℕ) → TellsSame flow.request shut server (shut_with (Some own) shut piece) (server_with (Some own) shut server piece) →
+        PassesWith (busy at flow (response_body own how most)) without_it
+    kept_passes flow most tells =
+        let streams : Bool = streams_in flow most without_it in
+        let both = kept_by flow most streams tells in
+        record {
+          stays = ap (λ b. pass_kept b at flow own how most with_it) (tells.streams flow.response most) ∙ both.0;
+          leaves = ap (λ b. past_kept b (came_in (streaming flow) with_it) with_it) (tells.streams flow.response most) ∙ both.1;
+        }
+
+  module _ (onward : Stage → Stage) (goes : IsOnward onward) where
+    -- where a flow goes on by itself, that is found there
+    found_busy : (at : At) (flow : Flow) (doing : Doing) (past : Sight) → IsFound (look terms (onward (busy at flow doing)) (record past { now = now_at (onward (busy at flow doing)) past.now })) →
+        IsFound (look terms (busy at flow doing) past)
+    found_busy at flow doing past found =
+        let P : Stage → Type 0 = λ s. IsFound (look terms s (record past { now = now_at s past.now })) in subst P (busy_on onward goes at flow doing) found
+
+    body_busy : (at : At) (flow : Flow) (response : Response) (item : Item ReadRequest) (now : ℕ) (past : Sight) →
+        IsFound (look terms (onward (pass_body at flow (Some response) item now)) (record past { now = now_at (onward (pass_body at flow (Some response) item now)) past.now })) →
+        IsFound (look terms (pass_body at flow (Some response) item now) past)
+    body_busy at flow response missing now past found = found_busy at flow (request_body (Some response)) past found
+    body_busy at flow response (part head body) now past found = found_busy at flow (request_body (Some response)) past found
+    body_busy at flow response (complete head body trailers used) now past found = found_busy at _ given_head past found
+    body_busy at flow response (bad_head fault) now past found = found_busy at flow (request_body (Some response)) past found
+    body_busy at flow response (bad_body fault head body) now past found = found_busy at flow (request_body (Some response)) past found
+
+    -- a response behind which something is found is whole or refused
+    came_found : (at : At) (flow : Flow) (own : ℕ) (how : Sent) (client server : List ℕ) (now : ℕ) (came : Option Came) → came_in flow (make client false server false now) ≡ came →
+        IsFound (look terms (onward (pass_came at flow own how (make client false server false now) came).stage)
+        (record (past_came came (make client false server false now)) { now = now_at (onward (pass_came at flow own how (make client false server false now) came).stage) now })) →
+        is_decided (answer_list (is_head flow.request.method) false server).final ≡ true
+    came_found at flow own how client server now None is found =
+        let item = (answer_list (is_head flow.request.method) false server).final in
+        let used : Used = ByServer own false in
+        coming_decided flow item now used false
+        (or_found (ends_early flow closed_message now used true) (look_coming flow item now used false) (found_busy at flow (coming_down own how) (make client false server false now) found))
+    came_found at flow own how client server now (Some came) is found = came_decided flow.response (answer_list (is_head flow.request.method) false server).final came is
+
+    kept_found : (at : At) (flow : Flow) (own : ℕ) (how : Sent) (most : Option ℕ) (client server : List ℕ) (now : ℕ) (streams : Bool) →
+        let seen : Sight = make client false server false now in
+        IsFound (look terms (onward (pass_kept streams at flow own how most seen).stage)
+        (record (past_kept streams (came_in (streaming flow) seen) seen) { now = now_at (onward (pass_kept streams at flow own how most seen).stage) now })) →
+        is_decided (answer_list (is_head flow.request.method) false server).final ≡ true
+    kept_found at flow own how most client server now true found =
+        let seen : Sight = make client false server false now in
+        came_found at (streaming flow) own how client server now (came_in (streaming flow) seen) refl found
+    kept_found at flow own how most client server now false found =
+        let item = (answer_list (is_head flow.request.method) false server).final in
+        let used : Used = ByServer own false in
+        returned_decided flow item now used false
+        (or_found (ends_early (without_response flow) closed_message now used true) (look_returned flow item now used false)
+        (found_busy at flow (response_body own how most) (make client false server false now) found))
+
+    -- what is found behind passing, in the sight that is left
+    abbrev IsFoundBehind : Stage → Sight → Type 0
+    IsFoundBehind stage v = IsFound (look terms (onward (pass stage v).stage) (sight_on onward stage v))
+
+    passes_by : (stage : Stage) (client server : List ℕ) (shut : Bool) (now : ℕ) → IsFoundBehind stage (make client false server shut now) →
+        PassesWith stage (make client false server shut now)
+    passes_by (idle at) client server shut now found = record { stays = refl; leaves = refl }
+    passes_by (busy at flow (request_body None)) client server shut now found = record { stays = refl; leaves = refl }
+    passes_by (busy at flow (request_body (Some response))) client server shut now found =
+        let side : Option ℕ = side_parked at.parked in
+        let more = piece_of Client piece in
+        let past : Sight = past_body at flow response client server shut now in
+        let same = passed_item at flow response client server shut now (body_busy at flow response (request_item client) now past found) in
+        record {
+          stays = ap (λ i. goes_to (pass_body at flow (Some response) i now)) same;
+          leaves = ap (λ l. make l false (server_with side shut server piece) (shut_with side shut piece) now)
+              (ap (λ i. left_by i (client ++ more)) same
+              ∙ left_more (request_item client) client more (λ head body trailers size is. (request_used chunk_laws client head body trailers size is).1))
+              ∙ ap (λ l. hears l past piece) (sym (body_side at flow response (request_item client) now));
+        }
+    passes_by (busy at flow connection) client server shut now found = record { stays = refl; leaves = refl }
+    passes_by (busy at flow (response_head own how)) client server shut now found = record { stays = refl; leaves = refl }
+    passes_by (busy at flow (response_body own how most)) client server true now found =
+        kept_passes at own how client server true now flow most (tells_same flow.request own server true (λ is. absurd (let e : true ≡ false = is in cc)))
+    passes_by (busy at flow (response_body own how most)) client server false now found =
+        let seen : Sight = make client false server false now in
+        kept_passes at own how client server false now flow most
+        (tells_same flow.request own server false (λ is. kept_found at flow own how most client server now (streams_in flow most seen) found))
+    passes_by (busy at flow (coming_down own how)) client server true now found =
+        came_passes at own how client server true now flow (tells_same flow.request own server true (λ is. absurd (let e : true ≡ false = is in cc)))
+    passes_by (busy at flow (coming_down own how)) client server false now found =
+        let seen : Sight = make client false server false now in
+        came_passes at own how client server false now flow
+        (tells_same flow.request own server false (λ is. came_found at flow own how client server now (came_in flow seen) refl found))
+    passes_by (busy at flow (upgraded own)) client server shut now found = record { stays = refl; leaves = refl }
+    passes_by (busy at flow given_head) client server shut now found = record { stays = refl; leaves = refl }
+    passes_by (busy at flow given_body) client server shut now found = record { stays = refl; leaves = refl }
+    passes_by (next at) client server shut now found = record { stays = refl; leaves = refl }
+    passes_by over client server shut now found = record { stays = refl; leaves = refl }
+
+    -- Where something is found behind passing, it passes with the piece as without it, and leaves the piece.
+    pub passes_with : (stage : Stage) (v : Sight) → v.closed ≡ false → IsFoundBehind stage v → PassesWith stage v
+    passes_with stage v open_client found =
+        let P : Bool → Type 0 = λ b. IsFoundBehind stage (make v.client b v.server v.shut v.now) → PassesWith stage (make v.client b v.server v.shut v.now) in
+        subst P (sym open_client) (passes_by stage v.client v.server v.shut v.now) found

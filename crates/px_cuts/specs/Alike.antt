@@ -8,7 +8,7 @@ use Rattle.px_event.specs.Alike.{Alike, IsLikeness, Unhurried}
 use Rattle.px_event.specs.Chain.{later, Stamp, Stamped, Timed}
 use Rattle.px_event.specs.Laws.{IsFound}
 use Rattle.px_exchange.specs.declared.terms.Terms.{Terms}
-use Rattle.px_chain.specs.Chain.{http_chain}
+use Rattle.px_chain.specs.Chain.{IsOnward, http_chain}
 use Rattle.px_chain.specs.Sights.{Standing}
 use Rattle.px_cuts.specs.Cuts.{AlikeSeen, MayBeHeard, MayStand, MayWaitFor, retimed}
 use Rattle.px_chain.specs.Stages.{Stage, side_of}
@@ -36,7 +36,7 @@ pub record PlacesAlike (see : ℕ → ℕ) (s : Standing) (f : List (Timed Event
 
 -- ---- a piece that waits behind the one place, and was heard in the other
 
-pub record HeardEarly (see : ℕ → ℕ) (terms : Terms) (event : Stamped Event) (last : Stamp) (s : Standing) (f : List (Timed Event)) (t : Standing) (g : List (Timed Event)) : Type 0 where
+pub record HeardEarly (see : ℕ → ℕ) (onward : Stage → Stage) (terms : Terms) (event : Stamped Event) (last : Stamp) (s : Standing) (f : List (Timed Event)) (t : Standing) (g : List (Timed Event)) : Type 0 where
   pub side : Side
   pub bytes : List ℕ
   pub is_piece : event.value ≡ events.Piece side bytes
@@ -45,7 +45,7 @@ pub record HeardEarly (see : ℕ → ℕ) (terms : Terms) (event : Stamped Event
   pub open_client : client_closed f ≡ false
   pub comes : moment_at see s.stage (later last event.stamp).moment ≡ moment_at see s.stage (now_over s.since f)
   -- a server's piece that waits while something is found is none of a server that is dialled later
-  pub heard : IsFound (look_over terms (passed_over s f) f) → MayBeHeard side s.stage
+  pub heard : IsFound (look_over terms (passed_over onward s f) f) → MayBeHeard side s.stage
   pub may : MayStand s f
   pub other_may : MayStand t g
 
@@ -55,10 +55,11 @@ pub record HeardEarly (see : ℕ → ℕ) (terms : Terms) (event : Stamped Event
 pub record IsCompared (see : ℕ → ℕ) (onward : Stage → Stage) (terms : Terms) : Type 0 where
   pub alike : Alike (http_chain onward terms) (AlikeSeen see) (PlacesAlike see)
   pub unhurried : (event : Stamped Event) →
-      Unhurried (http_chain onward terms) (AlikeSeen see) (PlacesAlike see) (MayWaitFor see event) event (HeardEarly see terms event)
+      Unhurried (http_chain onward terms) (AlikeSeen see) (PlacesAlike see) (MayWaitFor see event) event (HeardEarly see onward terms event)
 
 -- a chain of one flow or of flows in sequence, on these terms, that is compared so
 pub record Conversation (see : ℕ → ℕ) : Type 0 where
   pub onward : Stage → Stage
+  pub goes : IsOnward onward
   pub terms : Terms
   pub compared : IsCompared see onward terms

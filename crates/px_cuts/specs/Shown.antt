@@ -49,5 +49,5 @@ behind_over place prefix = behind place.stage (sight_over place prefix)
 abbrev pub shown_over : (ℕ → ℕ) → Standing → List (Timed Event) → Sight
 shown_over see place prefix = shown_sight see place.stage (sight_over place prefix)
 
-abbrev pub passed_over : Standing → List (Timed Event) → Standing
-passed_over place prefix = passed place (sight_over place prefix)
+abbrev pub passed_over : (Stage → Stage) → Standing → List (Timed Event) → Standing
+passed_over onward place prefix = passed onward place (sight_over place prefix)

@@ -27,7 +27,7 @@ impl Compared for Exactly {
 
     ghost chain = { λ given. http_chain given.onward given.terms };
 
-    ghost settles = { λ given. settles given.onward given.terms };
+    ghost settles = { λ given. settles given.onward given.goes given.terms };
 
     ghost like = { AlikeSeen as_it_is };
 
@@ -39,7 +39,7 @@ impl Compared for Exactly {
 
     ghost may_come = { MayWaitFor as_it_is };
 
-    ghost early = { λ given event. HeardEarly as_it_is given.terms event };
+    ghost early = { λ given event. HeardEarly as_it_is given.onward given.terms event };
 
     ghost unhurried = { λ given event. given.compared.unhurried event };
 }
@@ -51,7 +51,7 @@ impl Compared for AtAnyMoments {
 
     ghost chain = { λ given. http_chain given.onward given.terms };
 
-    ghost settles = { λ given. settles given.onward given.terms };
+    ghost settles = { λ given. settles given.onward given.goes given.terms };
 
     ghost like = { AlikeSeen no_moment };
 
@@ -63,7 +63,7 @@ impl Compared for AtAnyMoments {
 
     ghost may_come = { MayWaitFor no_moment };
 
-    ghost early = { λ given event. HeardEarly no_moment given.terms event };
+    ghost early = { λ given event. HeardEarly no_moment given.onward given.terms event };
 
     ghost unhurried = { λ given event. given.compared.unhurried event };
 }

@@ -17,6 +17,7 @@ use Rattle.px_event.specs.declared.side.Side.TheVariants.{Client, Server}
 use Rattle.px_write.specs.Error.{error_text, fault_message}
 use Rattle.px_exchange.specs.declared.ending.Used.{Used}
 use Rattle.px_exchange.specs.declared.ending.Used.TheVariants.{NoServer, ByServer}
+use Rattle.px_exchange.specs.Flows.{with_end}
 use Rattle.px_exchange.specs.Requests.{is_head}
 use Rattle.px_exchange.specs.Texts.{returned_text}
 
@@ -88,11 +89,16 @@ runs_to_close sent asked_head = is_to_close (response_length sent.status asked_h
 abbrev pub most_flows : ℕ
 most_flows = 1000000
 
-abbrev pub connection_goes_on : ℕ → Request → Response → Bool
-connection_goes_on index request response =
+-- behind a response, as its hooks left it, that is sent as this one
+abbrev pub goes_on_behind : ℕ → Request → (response sent : Response) → Bool
+goes_on_behind index request response sent =
     (persists request.version request.fields && persists response.version response.fields
-    && not (runs_to_close (settled_response (is_head request.method) response) (is_head request.method)))
+    && not (runs_to_close sent (is_head request.method)))
     && nat_lt (index + 1) most_flows
+
+-- that is sent whole
+abbrev pub connection_goes_on : ℕ → Request → Response → Bool
+connection_goes_on index request response = goes_on_behind index request response (settled_response (is_head request.method) response)
 
 -- ---- a flow that is finished: its text, the flow, the close of its server's side, and the client's where it ends there
 
@@ -100,6 +106,10 @@ abbrev pub finished : Flow → Response → Used → List Command
 finished flow response used =
     commands.Send Client (returned_text flow.request response)
     ∷ commands.Done (record flow { response = Some response }) ∷ shut_server used
+
+-- the same of a flow whose response was sent on as it came: all but its text
+abbrev pub finished_streamed : Flow → ℕ → Used → List Command
+finished_streamed flow moment used = commands.Done (with_end flow moment) ∷ shut_server used
 
 -- the closes of a parked side and of the client, unless the client's connection goes on
 abbrev pub shut_unless : Bool → Used → Bool → List Command

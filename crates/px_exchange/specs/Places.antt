@@ -1,5 +1,5 @@
 -- Where the requests of a conversation go.
-use Rattle.std.specs.Prelude.{ℕ, Bool, ◌==◌, ◌&&◌, bytes_eq, Option, Some, None}
+use Rattle.std.specs.Prelude.{ℕ, Bool, true, ◌==◌, ◌&&◌, bytes_eq, Option, Some, None}
 use Rattle.px_message.specs.declared.address.Address.{Address}
 use Rattle.px_message.specs.declared.request.Request.{Request}
 use Rattle.px_write.specs.declared.form.Form.{Form}
@@ -44,6 +44,6 @@ abbrev pub form_at : Place → Form
 form_at (places.Upstream proxy) = Absolute
 form_at place = Origin
 
--- how the flows of a conversation are made
+-- how the flows of a conversation are made: bodies are streamed where a reply allows it
 abbrev pub terms_of : ℕ → Option Address → Place → Terms
-terms_of conv client place = record { conv = conv; client = client; place = place }
+terms_of conv client place = record { conv = conv; client = client; place = place; streams = true }

@@ -3,12 +3,13 @@ ghost use Rattle.std.specs.Prelude.{◌≡◌, ◌++◌, OnOk, IfOk};
 ghost use Rattle.px_message.specs.Length.{stands as has_field, transfer_encoding};
 ghost use Rattle.px_message.specs.Settle.{settled_response};
 ghost use Rattle.px_write.specs.Error.{error_text as fault_text};
-ghost use Rattle.px_exchange.specs.Endings.{connection_goes_on, ends_by_fault, ends_early, finished, persists, refuses, runs_to_close, shut_all, shut_client, shut_server, shut_unless};
+ghost use Rattle.px_exchange.specs.Endings.{connection_goes_on, ends_by_fault, ends_early, finished, finished_streamed, goes_on_behind, persists, refuses, runs_to_close, shut_all, shut_client, shut_server, shut_unless};
 ghost use Rattle.px_exchange.specs.Requests.{is_head as asks_head};
+ghost use Rattle.px_exchange.specs.declared.ending.Used.TheVariants.{NoServer};
 
 use crate::asked::is_head;
 use crate::boxed::Boxed;
-use crate::flows::{with_error, with_response, without_response};
+use crate::flows::{with_end, with_error, with_response, without_response};
 use crate::said::{close, done, send};
 use crate::terms::Now;
 use crate::texts::returned_text;
@@ -161,10 +162,9 @@ pub fn settled(request: &Request, response: &Response) -> Result<Response, NoMem
     Ok(sent)
 }
 
-// Whether the client's connection goes on behind this flow, whose response was settled to this one.
-fn connection_goes_on(index: u32, request: &Request, response: &Response, sent: &Response) -> bool
-    requires settled { sent.now ≡ settled_response (asks_head request.now.method) response.now }
-    ensures { result ≡ connection_goes_on index request.now response.now }
+// Whether the client's connection goes on behind this flow, whose response is sent as this one.
+fn goes_on_behind(index: u32, request: &Request, response: &Response, sent: &Response) -> bool
+    ensures { result ≡ goes_on_behind index request.now response.now sent.now }
 {
     let asked = persists(request.version, &request.fields);
     let answered = persists(response.version, &response.fields);
@@ -209,11 +209,35 @@ pub fn finish(
     ensures gives { OnOk result (out.new.items ≡ out.old.items ++ finished flow response used ++ shut_unless (connection_goes_on index flow.request response) parked now.client_closed) }
 {
     let sent = settled(flow.request.get(), response.get())?;
-    let stays = connection_goes_on(index, flow.request.get(), response.get(), &sent);
+    let stays = goes_on_behind(index, flow.request.get(), response.get(), &sent);
     finish_flow(now, flow, response, &sent, used, out)?;
     if stays {
         return Ok(true);
     }
     shut_all(parked, now.client_closed, out)?;
+    Ok(false)
+}
+
+/// Finishes a flow whose response was sent on as it came, as `sent` says: the flow with the end of its response, the close of its
+/// server's side, and, where the client's connection ends there, the close of the client. Whether it goes on.
+pub fn finish_streamed(
+    now: Now,
+    index: u32,
+    flow: Boxed<Flow>,
+    response: &Response,
+    sent: &Response,
+    used: Used,
+    out: &mut Vec<Command>,
+) -> Result<bool, NoMemory>
+    ensures stays { IfOk result (λ stays. stays ≡ goes_on_behind index flow.request response.now sent.now) }
+    ensures gives { OnOk result (out.new.items ≡ out.old.items ++ finished_streamed flow now.moment used ++ shut_unless (goes_on_behind index flow.request response.now sent.now) NoServer now.client_closed) }
+{
+    let stays = goes_on_behind(index, flow.request.get(), response, sent);
+    done(with_end(flow, now.moment).into_inner(), out)?;
+    shut_server(used, out)?;
+    if stays {
+        return Ok(true);
+    }
+    shut_all(Used::NoServer, now.client_closed, out)?;
     Ok(false)
 }

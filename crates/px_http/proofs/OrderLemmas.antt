@@ -1,5 +1,5 @@
 -- No hook of a flow is asked behind the flow's end.
-use Rattle.std.proofs.Common.{◌≡◌, ℕ, ◌+◌, ◌<◌, Bool, true, List, [], ◌∷◌, ◌++◌, Option, Some, None, inl, inr, refl, ap, sym, ◌∙◌, subst, arith, nat_lt, lt-ltb}
+use Rattle.std.proofs.Common.{◌≡◌, ℕ, ◌+◌, ◌<◌, Bool, true, List, [], ◌∷◌, ◌++◌, inl, inr, refl, ap, sym, ◌∙◌, subst, arith, nat_lt, lt-ltb}
 use Rattle.std.specs.Prelude.{◌==◌}
 use Rattle.std.proofs.lemmas.Bool.{ltb-true, eqb-true, eq-eqb}
 use Rattle.px_message.specs.declared.flow.Flow.{Flow}
@@ -13,17 +13,14 @@ use Rattle.px_event.specs.Layer.{Move}
 use Rattle.px_event.specs.Stands.{due_by, events_in, replies_in}
 use Rattle.px_core.specs.Ordered.{AsksNoneOf, EndsOneOf, AsksBeforeEnds, LeavesBehind, LeavesNone, LeavesFlows}
 use Rattle.px_core.proofs.LeavingLemmas.{leaving_ordered}
-use Rattle.px_read.specs.Items.{Item, missing, part, complete, bad_head, bad_body}
-use Rattle.px_read.specs.declared.head.RequestHead.{RequestHead as ReadRequest}
-use Rattle.px_message.specs.declared.response.Response.{Response}
 use Rattle.px_exchange.specs.declared.terms.Terms.{Terms}
-use Rattle.px_chain.specs.Chain.{begin, behind, http_chain, look, pass, pass_body, sequence, so_far, turn}
-use Rattle.px_chain.specs.Sights.{Sight, Standing, request_in, sight_over}
+use Rattle.px_chain.specs.Chain.{begin, behind, http_chain, look, pass, sequence, so_far, turn}
+use Rattle.px_chain.specs.Sights.{Sight, Standing, sight_over}
 use Rattle.px_exchange.specs.Finds.{or_leaves}
-use Rattle.px_chain.specs.Left.{stage_left}
+use Rattle.px_chain.specs.Left.{doing_left, stage_left}
 use Rattle.px_chain.proofs.Quiet.{AllQuiet, EndsNone, IsAskOf, IsBehind, IsOf, LooksQuiet, no_flow}
-use Rattle.px_chain.specs.Stages.{At, Doing, Stage, busy, connection, given_body, given_head, idle, next, over, place_of, request_body, response_body, response_head, upgraded}
-use Rattle.px_chain.proofs.QuietLemmas.{IsGoing, behind_quiet, looks_quiet, so_far_quiet, turn_led}
+use Rattle.px_chain.specs.Stages.{At, Doing, Stage, busy, coming_down, connection, given_body, given_head, idle, next, over, place_of, request_body, response_body, response_head, upgraded}
+use Rattle.px_chain.proofs.QuietLemmas.{IsGoing, behind_quiet, looks_quiet, pass_led, so_far_quiet, turn_led}
 
 -- ---- the tests
 
@@ -175,7 +172,8 @@ module _ (here : ℕ) (owed : List Command) where
     leads_past (busy at flow (request_body given)) behind is none = goes_on at flow (request_body given) behind.0.0 is none
     leads_past (busy at flow connection) behind is none = goes_on at flow connection behind.0.0 is none
     leads_past (busy at flow (response_head side how)) behind is none = goes_on at flow (response_head side how) behind.0.0 is none
-    leads_past (busy at flow (response_body side how)) behind is none = goes_on at flow (response_body side how) behind.0.0 is none
+    leads_past (busy at flow (response_body side how most)) behind is none = goes_on at flow (response_body side how most) behind.0.0 is none
+    leads_past (busy at flow (coming_down side how)) behind is none = goes_on at flow (coming_down side how) behind.0.0 is none
     leads_past (busy at flow (upgraded side)) behind is none = goes_on at flow (upgraded side) behind.0.0 is none
     leads_past (busy at flow given_head) behind is none = goes_on at flow given_head behind.0.0 is none
     leads_past (busy at flow given_body) behind is none = goes_on at flow given_body behind.0.0 is none
@@ -253,31 +251,24 @@ module _ (terms : Terms) where
   stops over seen is = record { ordered = tt; asks_none = λ index before. tt }
 
   -- where it passes
-  stays : (stage : Stage) → is_counted stage ≡ true → Leaves stage [] stage
-  stays stage is =
-      record { ordered = tt; asks_none = λ index before. tt; ends = λ index ends. absurd ends; keeps = λ index before. before; leads = is }
+  stays : (stage : Stage) → is_counted (sequence stage) ≡ true → ((index : ℕ) → is_past stage index ≡ true → is_past (sequence stage) index ≡ true) → Leaves stage [] (sequence stage)
+  stays stage is keeps = record { ordered = tt; asks_none = λ index before. tt; ends = λ index ends. absurd ends; keeps = keeps; leads = is }
 
-  passed_by : (at : At) (flow : Flow) (given : Option Response) (item : Item ReadRequest) (now : ℕ) →
-      (flow.id.index == at.flow) ≡ true → Leaves (busy at flow (request_body given)) [] (pass_body at flow given item now)
-  passed_by at flow None item now is = stays (busy at flow (request_body None)) is
-  passed_by at flow (Some response) missing now is = stays (busy at flow (request_body (Some response))) is
-  passed_by at flow (Some response) (part head body) now is = stays (busy at flow (request_body (Some response))) is
-  passed_by at flow (Some response) (complete head body trailers used) now is =
-      record { ordered = tt; asks_none = λ index before. tt; ends = λ index ends. absurd ends; keeps = λ index before. before; leads = is }
-  passed_by at flow (Some response) (bad_head fault) now is = stays (busy at flow (request_body (Some response))) is
-  passed_by at flow (Some response) (bad_body fault head body) now is = stays (busy at flow (request_body (Some response))) is
-
-  passes : (stage : Stage) (seen : Sight) → is_counted stage ≡ true → Leaves stage [] (pass stage seen)
-  passes (idle at) seen is = stays (idle at) is
-  passes (busy at flow (request_body given)) seen is = passed_by at flow given (request_in seen) seen.now is
-  passes (busy at flow connection) seen is = stays (busy at flow connection) is
-  passes (busy at flow (response_head side how)) seen is = stays (busy at flow (response_head side how)) is
-  passes (busy at flow (response_body side how)) seen is = stays (busy at flow (response_body side how)) is
-  passes (busy at flow (upgraded side)) seen is = stays (busy at flow (upgraded side)) is
-  passes (busy at flow given_head) seen is = stays (busy at flow given_head) is
-  passes (busy at flow given_body) seen is = stays (busy at flow given_body) is
-  passes (next at) seen is = stays (next at) is
-  passes over seen is = stays over is
+  passes : (stage : Stage) (seen : Sight) → is_counted stage ≡ true → Leaves stage (pass stage seen).owed (sequence (pass stage seen).stage)
+  passes (idle at) seen is = stays (idle at) is (λ index before. before)
+  passes (busy at flow doing) seen is =
+      let there = pass (busy at flow doing) seen in
+      let led = pass_led terms (HasIndex at.flow) at flow doing seen (eqb-true flow.id.index at.flow is) in
+      let on = leads_past at.flow there.owed terms at.dials (doing_left doing + 1) led.quiet there.stage led.behind led.is_of led.ends_none in
+      record {
+        ordered = quiet_ordered (HasIndex at.flow) there.owed led.quiet;
+        asks_none = λ index before. quiet_none (HasIndex at.flow) index there.owed led.quiet;
+        ends = on.ends;
+        keeps = λ index before. on.later index before;
+        leads = on.counted;
+      }
+  passes (next at) seen is = stays (next at) refl (λ index before. before)
+  passes over seen is = stays over is (λ index before. before)
 
   -- from stages to places
   at_places : (place other : Standing) (owed : List Command) → Leaves place.stage owed other.stage → LeavesBehind is_counted_at is_past_at place owed other
@@ -290,7 +281,7 @@ module _ (terms : Terms) where
   -- Flows in sequence leave their flows behind.
   pub leaves_flows : LeavesFlows (http_chain sequence terms) is_counted_at is_past_at
   leaves_flows = record {
-    passes = λ place prefix is. at_places place _ [] (passes place.stage (sight_over place prefix) is);
+    passes = λ place prefix is. at_places place _ _ (passes place.stage (sight_over place prefix) is);
     turns = λ place prefix ask is asked reply. at_places place _ _ (turns place.stage (sight_over place prefix) ask is asked reply);
     stops = λ place prefix is. stops_at place _ (stops place.stage (sight_over place prefix) is);
   }

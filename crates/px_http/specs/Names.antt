@@ -11,11 +11,11 @@ use Rattle.px_event.specs.Stands.{due_by}
 use Rattle.px_core.specs.Conversation.{IsNamed, AllNamed}
 use Rattle.px_core.proofs.ChainNamedLemmas.{StaysNamed, stays_named}
 use Rattle.px_exchange.specs.declared.terms.Terms.{Terms}
-use Rattle.px_chain.specs.Chain.{behind, http_chain, look, sequence, so_far, turn}
+use Rattle.px_chain.specs.Chain.{behind, http_chain, look, pass as pass_on, sequence, so_far, turn}
 use Rattle.px_chain.specs.Sights.{Sight, Standing, sight_over}
 use Rattle.px_chain.proofs.Quiet.{AllQuiet, IsOf, IsAskOf, LooksQuiet}
 use Rattle.px_chain.specs.Stages.{Stage, busy, idle, next, over}
-use Rattle.px_chain.proofs.QuietLemmas.{behind_quiet, looks_quiet, pass_of, so_far_quiet, turn_led}
+use Rattle.px_chain.proofs.QuietLemmas.{behind_quiet, looks_quiet, pass_of, pass_quiet, so_far_quiet, turn_led}
 use Rattle.px_http.specs.declared.conversation.HttpConv.{HttpConv}
 use Rattle.px_http.specs.Stands.{HttpStands, chain_of, start_at}
 
@@ -70,7 +70,11 @@ turned terms over seen answer is = (tt, tt)
 
 pub stays : (terms : Terms) → StaysNamed terms.conv (http_chain sequence terms) (IsOfIts terms)
 stays terms = record {
-  pass = λ place prefix is. (tt, pass_of terms (OfConversation terms.conv) place.stage (sight_over place prefix) is);
+  pass = λ place prefix is.
+      let passed = pass_on place.stage (sight_over place prefix) in (
+        quiet_named terms.conv passed.owed (pass_quiet terms (OfConversation terms.conv) place.stage (sight_over place prefix) is),
+        onward_of terms passed.stage (pass_of terms (OfConversation terms.conv) place.stage (sight_over place prefix) is),
+      );
   look = λ place prefix is. look_named terms.conv (look terms place.stage (sight_over place prefix)) (looks_quiet (OfConversation terms.conv) terms place.stage (sight_over place prefix) is);
   so_far = λ place prefix is. quiet_named terms.conv (so_far place.stage (sight_over place prefix)) (so_far_quiet (OfConversation terms.conv) place.stage (sight_over place prefix));
   behind = λ place prefix is. quiet_named terms.conv (behind place.stage (sight_over place prefix)) (behind_quiet (OfConversation terms.conv) place.stage (sight_over place prefix));

@@ -1,6 +1,6 @@
 -- What a conversation of flows in sequence stands for: what its flow's machine does, on the chain whose finished flows lead to
 -- the next.
-use Rattle.std.proofs.Common.{ℕ, List, Option}
+use Rattle.std.proofs.Common.{ℕ, List, Option, refl}
 use Rattle.std.specs.Prelude.{◌-◌}
 use Rattle.px_event.specs.declared.ask.Ask.{Ask}
 use Rattle.px_event.specs.declared.command.Command.{Command}
@@ -11,7 +11,7 @@ use Rattle.px_event.specs.Laws.{Settles, SoFarGrows}
 use Rattle.px_event.specs.Layer.{Move, IsSound}
 use Rattle.px_event.specs.Stands.{StandsAt, AwaitsWhatItAsks, EndsWhereItEnds, stop_of}
 use Rattle.px_event.specs.View.{View, seen_of}
-use Rattle.px_chain.specs.Chain.{begin, http_chain, sequence}
+use Rattle.px_chain.specs.Chain.{begin, http_chain, is_sequence, sequence}
 use Rattle.px_chain.proofs.ChainLaws.{settles, so_far_grows}
 use Rattle.px_chain.specs.Sights.{Sight, Standing, sight_over}
 use Rattle.px_stream.specs.Anywhere.{IsInSequence, Somewhere}
@@ -55,10 +55,10 @@ abbrev pub seen_at : HttpConv → List Move → Sight
 seen_at made moves = sight_over (stop_at made moves).stage (stop_at made moves).prefix
 
 pub settles_there : (made : HttpConv) → Settles (chain_of made)
-settles_there made = settles sequence made.stream.terms
+settles_there made = settles sequence (is_sequence refl) made.stream.terms
 
 pub grows_there : (made : HttpConv) (view : View) → SoFarGrows (chain_of made) (seen_of view)
-grows_there made view = so_far_grows sequence made.stream.terms view
+grows_there made view = so_far_grows sequence (is_sequence refl) made.stream.terms view
 
 pub asks_there : (made : HttpConv) → AwaitsWhatItAsks (chain_of made) (is_there made) awaits
 asks_there made =

@@ -52,7 +52,7 @@ impl HttpConv {
             index: first_flow,
         };
         Ok(HttpConv {
-            stream: Stream::new(alloc, id, client, place, next_server)?,
+            stream: Stream::new(alloc, id, client, place, next_server, true)?,
         })
     }
 

@@ -93,7 +93,7 @@ module _ (terms : Terms) (recorded : Request) where
   passes waiting (event ∷ prefix) = tt
   passes (asks_head flow) prefix = tt
   passes (asks_whole flow) prefix = tt
-  passes (goes_on place) prefix = tt
+  passes (goes_on place) prefix = others_left ((flows_of terms recorded).pass place (all_of_servers prefix)).owed
   passes over prefix = tt
 
   looks : (stage : Stage) (prefix : List (Timed Event)) → AreOthers (found ((resend_chain terms recorded).look stage prefix))

@@ -25,13 +25,13 @@ use Rattle.px_exchange.specs.declared.terms.Terms.{Terms}
 use Rattle.px_exchange.specs.Finds.{is_relayed, look_answer, look_answer_head, look_returned, or_leaves}
 use Rattle.px_exchange.specs.Flows.{ask_of}
 use Rattle.px_exchange.specs.Replies.{taken_at_request_head, taken_at_request_body}
-use Rattle.px_chain.specs.Chain.{look as look_of, sequence, turn as turn_of}
+use Rattle.px_chain.specs.Chain.{look as look_of, look_coming, pass as pass_of, sequence, turn as turn_of}
 use Rattle.px_chain.specs.Left.{stage_left}
 use Rattle.px_chain.specs.Sights.{Sight, answers_in, server_in, sight_over}
-use Rattle.px_chain.specs.Stages.{At, busy, connection, given_body, given_head, idle, next, request_body, response_body, response_head, upgraded}
+use Rattle.px_chain.specs.Stages.{At, busy, coming_down, connection, given_body, given_head, idle, next, request_body, response_body, response_head, upgraded}
 use Rattle.px_chain.specs.Stages as flows
 use Rattle.px_chain.proofs.Quiet.{AllQuiet, LooksQuiet, any_flow}
-use Rattle.px_chain.proofs.QuietLemmas.{IsGoing, turn_behind, turn_quiet}
+use Rattle.px_chain.proofs.QuietLemmas.{IsGoing, pass_quiet, turn_behind, turn_quiet}
 use Rattle.px_stream.specs.Anywhere.{doing_by}
 use Rattle.px_resend.specs.Chain.{Stage, asks_head, asks_whole, first_at, goes_on, look_by, over, pass, resend_chain, terms_by, to_servers_in, turn_head, turn_whole, waiting}
 use Rattle.px_resend.specs.Dialled.{IsFirstAlone, dial_in, dials_in}
@@ -39,7 +39,7 @@ use Rattle.px_resend.specs.Due.{resend_due}
 use Rattle.px_resend.specs.Heard.{all_of_servers, to_servers}
 use Rattle.px_resend.specs.Stands.{ByDial}
 use Rattle.px_resend.proofs.BehindDial.{IsBehindDial, by_dial, led_by, passed_by, past}
-use Rattle.px_resend.proofs.OwedLemmas.{asked_there, busy_goes, found_quiet, quiet_left}
+use Rattle.px_resend.proofs.OwedLemmas.{asked_there, busy_goes, found_quiet, is_any, quiet_left}
 use Rattle.px_event.proofs.Kept.{KeepsSteps, due_kept}
 
 -- ---- which servers were dialled before a stage
@@ -121,6 +121,13 @@ returned_not flow (complete head body trailers size) moment used closed = refl
 returned_not flow (bad_head fault) moment used closed = tt
 returned_not flow (bad_body fault head body) moment used closed = tt
 
+coming_not : (flow : Flow) (item : Item ReadResponse) (moment : ℕ) (used : Used) (closed : Bool) → AsksNoDial (look_coming flow item moment used closed)
+coming_not flow missing moment used closed = tt
+coming_not flow (part head body) moment used closed = tt
+coming_not flow (complete head body trailers size) moment used closed = tt
+coming_not flow (bad_head fault) moment used closed = tt
+coming_not flow (bad_body fault head body) moment used closed = tt
+
 left_not : (l : Look Command) → AsksNoDial l → AsksNoDial (to_servers_in l)
 left_not NotYet not_one = tt
 left_not (Asks ask) not_one = not_one
@@ -138,8 +145,10 @@ module _ (terms : Terms) where
   asks_no_dial (busy at flow connection) seen is = absurd is
   asks_no_dial (busy at flow (response_head side how)) seen is =
       left_not _ (leaves_not seen.closed _ _ (answer_not flow (answers_in flow.request seen).final seen.now (server_in side seen) seen.closed))
-  asks_no_dial (busy at flow (response_body side how)) seen is =
+  asks_no_dial (busy at flow (response_body side how most)) seen is =
       left_not _ (leaves_not seen.closed _ _ (returned_not flow (answers_in flow.request seen).final seen.now (server_in side seen) seen.closed))
+  asks_no_dial (busy at flow (coming_down side how)) seen is =
+      left_not _ (leaves_not seen.closed _ _ (coming_not flow (answers_in flow.request seen).final seen.now (server_in side seen) seen.closed))
   asks_no_dial (busy at flow (upgraded side)) seen is = tt
   asks_no_dial (busy at flow given_head) seen is = refl
   asks_no_dial (busy at flow given_body) seen is = refl
@@ -202,22 +211,25 @@ module _ (terms : Terms) (recorded : Request) where
   passes before (asks_head flow) prefix kept = kept
   passes before (asks_whole flow) prefix kept = kept
   passes before (goes_on place) prefix kept =
-      passed_by (IsFirst (dials_in before)) (IsFirstAlone (dials_in before)) place.stage (sight_over place (all_of_servers prefix)) kept
+      passed_by (IsFirst (dials_in before)) (IsFirstAlone (dials_in before)) terms place.stage (sight_over place (all_of_servers prefix)) kept
   passes before over prefix kept = kept
 
-  owes_none : (stage : Stage) (prefix : List (Timed Event)) → (pass terms recorded stage prefix).owed ≡ []
-  owes_none waiting [] = refl
-  owes_none waiting (event ∷ prefix) = refl
-  owes_none (asks_head flow) prefix = refl
-  owes_none (asks_whole flow) prefix = refl
-  owes_none (goes_on place) prefix = refl
-  owes_none over prefix = refl
+  dials_none : (stage : Stage) (prefix : List (Timed Event)) → dials_in (pass terms recorded stage prefix).owed ≡ []
+  dials_none waiting [] = refl
+  dials_none waiting (event ∷ prefix) = refl
+  dials_none (asks_head flow) prefix = refl
+  dials_none (asks_whole flow) prefix = refl
+  dials_none (goes_on place) prefix =
+      let seen : Sight = sight_over place (all_of_servers prefix) in
+      let owed : List Command = (pass_of place.stage seen).owed in
+      quiet_dials (to_servers owed) (quiet_left any_flow owed (pass_quiet terms any_flow place.stage seen (is_any terms place.stage)))
+  dials_none over prefix = refl
 
   passes_on : (before : List Command) (stage : Stage) (prefix : List (Timed Event)) → Kept before stage →
       Kept (before ++ (pass terms recorded stage prefix).owed) (pass terms recorded stage prefix).stage
   passes_on before stage prefix kept =
-      let P : List Command → Type 0 = λ l. Kept l (pass terms recorded stage prefix).stage in
-      subst P (sym (ap (λ l. before ++ l) (owes_none stage prefix) ∙ append-nil before)) (passes before stage prefix kept)
+      let P : List ℕ → Type 0 = DialledBefore (pass terms recorded stage prefix).stage in
+      subst P (sym (none_more before (pass terms recorded stage prefix).owed (dials_none stage prefix))) (passes before stage prefix kept)
 
   -- the flow that goes on
   flow_leads : (servers : List ℕ) (stage : flows.Stage) (seen : Sight) (answer : Timed Reply) → IsFirstAlone servers → stage_left stage ≤ 3 → IsGoing stage →

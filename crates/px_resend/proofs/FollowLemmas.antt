@@ -24,7 +24,7 @@ use Rattle.px_exchange.specs.Endings.{shut_server}
 use Rattle.px_exchange.specs.Finds.{look_head, or_leaves}
 use Rattle.px_chain.specs.Chain.{look}
 use Rattle.px_chain.specs.Sights.{Sight, Standing, request_in, server_in, server_parked, sight_over}
-use Rattle.px_chain.specs.Stages.{At, all_sent, busy, connection, given_body, given_head, idle, next, request_body, response_body, response_head, upgraded}
+use Rattle.px_chain.specs.Stages.{At, all_sent, busy, coming_down, connection, given_body, given_head, idle, next, request_body, response_body, response_head, upgraded}
 use Rattle.px_chain.specs.Stages as flows
 use Rattle.px_chain.specs.Streams.{bytes_of}
 use Rattle.px_chain.proofs.Quiet.{IsAskOf, LooksQuiet, any_flow}
@@ -155,7 +155,8 @@ module _ (terms : Terms) (recorded : Request) (boxed : Box Stream) (next_child :
       not_yet here (ready.RequestBody flow given body) same is = waits_on (busy here flow (request_body given)) refl (subst Leads same leads)
       not_yet here (ready.Connection flow) same is = waits_on (busy here flow connection) refl (subst Leads same leads)
       not_yet here (ready.ResponseHead flow server) same is = waits_on (busy here flow (response_head server all_sent)) refl (subst Leads same leads)
-      not_yet here (ready.ResponseBody flow server body) same is = waits_on (busy here flow (response_body server all_sent)) refl (subst Leads same leads)
+      not_yet here (ready.ResponseBody flow server most body held) same is = waits_on (busy here flow (response_body server all_sent most)) refl (subst Leads same leads)
+      not_yet here (ready.ComingDown flow server sent) same is = waits_on (busy here flow (coming_down server all_sent)) refl (subst Leads same leads)
       not_yet here (ready.Upgraded flow server) same is = absurd (never_waits seen.closed is)
       not_yet here (ready.GivenHead flow) same is = waits_on (busy here flow given_head) refl (subst Leads same leads)
       not_yet here (ready.GivenBody flow) same is = waits_on (busy here flow given_body) refl (subst Leads same leads)
@@ -196,7 +197,8 @@ module _ (terms : Terms) (recorded : Request) (boxed : Box Stream) (next_child :
       ends_it (busy here flow (request_body given)) owed last none unclosed same is over = ends_as (busy here flow (request_body given)) owed last same refl over
       ends_it (busy here flow connection) owed last none unclosed same is over = ends_as (busy here flow connection) owed last same refl over
       ends_it (busy here flow (response_head server sent)) owed last none unclosed same is over = ends_as (busy here flow (response_head server sent)) owed last same refl over
-      ends_it (busy here flow (response_body server sent)) owed last none unclosed same is over = ends_as (busy here flow (response_body server sent)) owed last same refl over
+      ends_it (busy here flow (response_body server sent most)) owed last none unclosed same is over = ends_as (busy here flow (response_body server sent most)) owed last same refl over
+      ends_it (busy here flow (coming_down server sent)) owed last none unclosed same is over = ends_as (busy here flow (coming_down server sent)) owed last same refl over
       ends_it (busy here flow (upgraded server)) owed last none unclosed same is over =
           let there = same ∙ ap phase.Ready over.phase in
           let led : Leads (phase.Ready (ready.Upgraded flow server)) = subst Leads there leads in
@@ -275,7 +277,8 @@ module _ (boxed : Box Stream) (next_child : Child) (more : List Command) where
   asks_by (phase.Ready (ready.RequestBody flow given body)) its leads = goes_asks (phase.Ready (ready.RequestBody flow given body)) its leads
   asks_by (phase.Ready (ready.Connection flow)) its leads = goes_asks (phase.Ready (ready.Connection flow)) its leads
   asks_by (phase.Ready (ready.ResponseHead flow server)) its leads = goes_asks (phase.Ready (ready.ResponseHead flow server)) its leads
-  asks_by (phase.Ready (ready.ResponseBody flow server body)) its leads = goes_asks (phase.Ready (ready.ResponseBody flow server body)) its leads
+  asks_by (phase.Ready (ready.ResponseBody flow server most body held)) its leads = goes_asks (phase.Ready (ready.ResponseBody flow server most body held)) its leads
+  asks_by (phase.Ready (ready.ComingDown flow server sent)) its leads = goes_asks (phase.Ready (ready.ComingDown flow server sent)) its leads
   asks_by (phase.Ready (ready.GivenHead flow)) its leads = goes_asks (phase.Ready (ready.GivenHead flow)) its leads
   asks_by (phase.Ready (ready.GivenBody flow)) its leads = goes_asks (phase.Ready (ready.GivenBody flow)) its leads
   asks_by (phase.Ready (ready.Connects address)) its leads = over_asks leads.0 (none_asked leads.1)

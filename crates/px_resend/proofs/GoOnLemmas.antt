@@ -1,5 +1,5 @@
 -- The flow, whose request is whole, goes on as a stream of its own: it is where the chain goes on with it.
-use Rattle.std.proofs.Common.{◌≡◌, ◌≤◌, ℕ, Bool, true, false, List, [], ◌++◌, drop, Option, Some, None, refl, ap, sym, ◌∙◌, subst, arith}
+use Rattle.std.proofs.Common.{◌≡◌, ℕ, Bool, true, false, List, [], ◌++◌, drop, Option, Some, None, refl, ap, sym, ◌∙◌, subst, arith}
 use Rattle.std.specs.Prelude.{option_to_list}
 use Rattle.std.specs.Global.{Box}
 use Rattle.std.specs.List.{flat_map}
@@ -14,16 +14,16 @@ use Rattle.px_event.specs.declared.command.Command.TheVariants as commands
 use Rattle.px_event.specs.declared.event.Event.{Event}
 use Rattle.px_event.specs.declared.side.Side.TheVariants.{Client}
 use Rattle.px_event.specs.Chain.{Timed, Look, NotYet, Asks, Ends, found}
-use Rattle.px_event.specs.Laws.{owed_here}
+use Rattle.px_event.specs.Laws.{owed_over}
 use Rattle.px_event.specs.Layer.{AsksOnly, asks_in}
 use Rattle.px_event.specs.View.{seen_of}
+use Rattle.px_event.proofs.Seen.{seen_append}
 use Rattle.px_read.specs.Reader.{State}
-use Rattle.px_exchange.specs.declared.place.Place.{Place}
 use Rattle.px_exchange.specs.declared.terms.Terms.{Terms}
 use Rattle.px_exchange.specs.Finds.{or_leaves}
 use Rattle.px_exchange.specs.Flows.{ask_of}
-use Rattle.px_exchange.specs.Places.{dialled_for, terms_of}
-use Rattle.px_chain.specs.Chain.{given_at, look, parked_of, pass}
+use Rattle.px_exchange.specs.Places.{dialled_for}
+use Rattle.px_chain.specs.Chain.{given_at, look, pass, sequence}
 use Rattle.px_chain.specs.Sights.{Sight, Standing, sight_over}
 use Rattle.px_chain.specs.Stages.{At, Parked, busy}
 use Rattle.px_chain.specs.Stages as flows
@@ -35,44 +35,26 @@ use Rattle.px_stream.specs.declared.phase.Phase.{Phase}
 use Rattle.px_stream.specs.declared.phase.Phase.TheVariants as phase
 use Rattle.px_stream.specs.declared.stream.Stream.{Stream}
 use Rattle.px_stream.specs.Anywhere.{BeginsThere, GoesOnWith, IsCounted, IsNew, MayGoOn, doing_by, unheard}
-use Rattle.px_stream.specs.Tells.{IsSideBelow, is_idle, left_by as stream_left, outcome_in, sequence_left}
+use Rattle.px_stream.specs.Tells.{is_idle, outcome_in}
 use Rattle.px_stream.specs.Stands.{PhaseAt, awaits, parked_link}
 use Rattle.px_resend.specs.declared.child.Child.TheVariants as children
-use Rattle.px_resend.specs.Chain.{first_at, flows_of, going, going_at, place_by, terms_by}
+use Rattle.px_resend.specs.Chain.{first_at, flows_of, going, going_at, goes_on, resend_chain, terms_by}
 use Rattle.px_resend.specs.Heard.{all_of_servers, to_servers}
-use Rattle.px_resend.specs.Kept.{awaited_by, going_left, left_by}
+use Rattle.px_resend.specs.Kept.{awaited_by}
 use Rattle.px_resend.specs.Stands.{IsUnparked}
 use Rattle.px_resend.specs.Steps.{Adds, Arrives, Follows, FollowsAs, GoesOnAs}
 use Rattle.px_resend.proofs.FollowLemmas.{follows_at}
-use Rattle.px_resend.proofs.GoingLemmas.{owed_there}
+use Rattle.px_resend.proofs.GoingLemmas.{owed_passed}
 use Rattle.px_resend.proofs.HeardLemmas.{never_closed, no_bytes, servers_alike, servers_asked}
 use Rattle.px_resend.proofs.BehindDial.{first_unparked, passed_unparked}
 
 -- ---- a stream of this place
-
--- no side of it is connected
-pub no_side : (proxy : Option Address) (place : Place) → place ≡ place_by proxy → IsSideBelow place 0
-no_side None place is = let P : Place → Type 0 = λ p. IsSideBelow p 0 in subst P (sym is) tt
-no_side (Some address) place is = let P : Place → Type 0 = λ p. IsSideBelow p 0 in subst P (sym is) tt
-
-none_parked : (proxy : Option Address) → parked_of (place_by proxy) ≡ None
-none_parked None = refl
-none_parked (Some address) = refl
 
 -- What a stream is that was made for it.
 pub record IsMadeFor (conv : ℕ) (proxy : Option Address) (state : Stream) : Type 0 where
   pub terms : state.terms ≡ terms_by conv proxy
   pub at : state.at ≡ first_at
   pub is_new : IsNew state
-
--- the first flow, where this is parked
-abbrev first_with : Option Parked → At
-first_with parked = record { flow = 0; dials = 0; parked = parked }
-
-pub made_for : (conv : ℕ) (proxy : Option Address) (place : Place) (state : Stream) → place ≡ place_by proxy → state.terms ≡ terms_of conv None place →
-    state.at ≡ record { flow = 0; dials = 0; parked = parked_of place } → IsNew state → IsMadeFor conv proxy state
-made_for conv proxy place state is terms at is_new =
-    record { terms = terms ∙ ap (terms_of conv None) is; at = at ∙ (ap (λ p. first_with (parked_of p)) is ∙ ap first_with (none_parked proxy)); is_new = is_new }
 
 -- ---- where it goes on
 
@@ -107,7 +89,7 @@ asks_still true leaving ask = refl
 asks_still false leaving ask = refl
 
 asks_by : (given : Option Response) (terms : Terms) (flow : Flow) (before seen : Sight) →
-    (ask : Command) × (look terms (pass (busy first_at flow (doing_by given)) before) seen ≡ Asks ask)
+    (ask : Command) × (look terms (sequence (pass (busy first_at flow (doing_by given)) before).stage) seen ≡ Asks ask)
 asks_by None terms flow before seen =
     let ask : Command = commands.Dial first_at.dials (dialled_for terms.place flow.request) None in (ask, asks_still seen.closed [] ask)
 asks_by (Some response) terms flow before seen =
@@ -139,14 +121,18 @@ module _ (conv : ℕ) (proxy : Option Address) (recorded : Request) (flow : Flow
       let asks = asks_by flow.response terms flow (sight_over place heard) (sight_over on heard) in
       let asked = asked_phase (look terms on.stage (sight_over on heard)) terms boxed.value.at boxed.value.requests boxed.value.side boxed.value.phase on.stage (sight_over on heard) asks.0 asks.1
       there.is_there.is_at.is_in.phase in
-      let still : IsUnparked on.stage = passed_unparked place.stage (sight_over place heard) (first_unparked flow.response flow) in
+      let still : IsUnparked on.stage = passed_unparked terms place.stage (sight_over place heard) (first_unparked flow.response flow) in
       let follows = follows_at terms recorded boxed (children.GoesOn boxed) [] on prefix there.is_there still (follows_asked boxed asked.0 asked.1) in
       record {
         there = follows.there;
         gives = λ view.
-            servers_alike view given (owed_here chain on heard) (there.gives view)
-            ∙ (ap (seen_of view) (owed_there terms recorded on heard still)
-            ∙ (sym (append-nil (seen_of view (to_servers (found (chain.look on heard))))) ∙ follows.gives view));
+            let first : List Command = to_servers (chain.pass place heard).owed in
+            let here : List Command = to_servers (found (chain.look on heard)) in
+            servers_alike view given (owed_over chain place heard) (there.gives view)
+            ∙ (ap (seen_of view) (owed_passed terms recorded place heard still)
+            ∙ (seen_append view first here
+            ∙ (ap (λ l. seen_of view first ++ l) (sym (append-nil (seen_of view here)) ∙ follows.gives view)
+            ∙ sym (seen_append view first (found ((resend_chain terms recorded).look (goes_on on) prefix))))));
       }
 
   pub goes_on_there : (after : Stream) (start out between : List Command) → boxed.value ≡ after → start ≡ [] → IsMadeFor conv proxy before → GoesOnWith before after moment flow start given →
@@ -172,13 +158,3 @@ asks_there boxed after start given out between is empty passed (more, same, aske
   passed,
   servers_asked given ∙ (ap (flat_map asks_in) (same ∙ ap (λ l. l ++ more) empty) ∙ (asked ∙ ap (λ s. option_to_list (awaits s)) (sym is))),
 )
-
--- and as many replies may be asked for as of a new stream
-pub left_there : (conv : ℕ) (proxy : Option Address) (before after : Stream) (boxed : Box Stream) → boxed.value ≡ after → IsMadeFor conv proxy before →
-    sequence_left after ≤ sequence_left before → left_by (children.GoesOn boxed) ≤ going_left
-left_there conv proxy before after boxed same is fewer =
-    let at_first : sequence_left before ≡ stream_left first_at before.phase = ap (λ at. stream_left at before.phase) is.at in
-    let at_phase : stream_left first_at before.phase ≡ going_left = ap (stream_left first_at) is.is_new.phase in
-    let first : sequence_left before ≡ going_left = at_first ∙ at_phase in
-    let last : left_by (children.GoesOn boxed) ≡ sequence_left after = ap (λ s. sequence_left s) same in
-    omega arith

@@ -21,7 +21,7 @@ use Rattle.px_exchange.specs.declared.terms.Terms.{Terms}
 use Rattle.px_exchange.specs.Texts.{interim_command, interim_commands}
 use Rattle.px_chain.specs.Chain.{http_chain, sequence, so_far}
 use Rattle.px_chain.specs.Sights.{Sight, Standing, answers_in, sight_over}
-use Rattle.px_chain.specs.Stages.{busy, connection, given_body, given_head, idle, next, request_body, response_body, response_head, upgraded}
+use Rattle.px_chain.specs.Stages.{busy, coming_down, connection, given_body, given_head, idle, next, request_body, response_body, response_head, upgraded}
 use Rattle.px_chain.specs.Stages as flows
 use Rattle.px_stream.specs.declared.stream.Stream.{Stream}
 use Rattle.px_stream.specs.Anywhere.{IsInSequence, ResumesAnywhere, Somewhere, TakesAnywhere}
@@ -93,7 +93,7 @@ found_same terms recorded boxed place prefix is =
     same_unless place.stage (sight_over place (all_of_servers prefix)) ((flows_of terms recorded).look place (all_of_servers prefix))
     (λ owed ends. not_ended ((resend_chain terms recorded).look (goes_on place) prefix) terms boxed (goes_on place) prefix owed is ends)
 
--- ---- interim responses are for a client
+-- ---- interim responses are for a client, and so is what comes of a response that is streamed
 
 interim_none : (heads : List ReadResponse) → to_servers (map interim_command heads) ≡ []
 interim_none [] = refl
@@ -108,7 +108,8 @@ waits_none (idle at) seen = refl
 waits_none (busy at flow (request_body given)) seen = refl
 waits_none (busy at flow connection) seen = refl
 waits_none (busy at flow (response_head side how)) seen = interim_by flow.request.version flow.request (answers_in flow.request seen).interim refl
-waits_none (busy at flow (response_body side how)) seen = refl
+waits_none (busy at flow (response_body side how most)) seen = refl
+waits_none (busy at flow (coming_down side how)) seen = refl
 waits_none (busy at flow (upgraded side)) seen = refl
 waits_none (busy at flow given_head) seen = refl
 waits_none (busy at flow given_body) seen = refl
@@ -125,19 +126,35 @@ owed_there terms recorded place prefix unparked =
     ∙ (servers_append waits (found here)
     ∙ ap (λ l. l ++ to_servers (found here)) (waits_none place.stage (sight_over place prefix)))
 
+-- and so where it passes, behind what passing owes
+pub owed_passed : (terms : Terms) (recorded : Request) (place : Standing) (prefix : List (Timed Event)) → IsUnparked ((flows_of terms recorded).pass place prefix).stage.stage →
+    to_servers (owed_over (flows_of terms recorded) place prefix)
+    ≡ to_servers ((flows_of terms recorded).pass place prefix).owed ++ to_servers (found ((flows_of terms recorded).look ((flows_of terms recorded).pass place prefix).stage prefix))
+owed_passed terms recorded place prefix unparked =
+    let passed = (flows_of terms recorded).pass place prefix in
+    servers_append passed.owed (owed_here (flows_of terms recorded) passed.stage prefix) ∙ ap (λ l. to_servers passed.owed ++ l) (owed_there terms recorded passed.stage prefix unparked)
+
 module _ (terms : Terms) (recorded : Request) (boxed : Box Stream) (after : Box Stream) (child : Child) (given second : List Command) (follows : Follows after child second) where
   -- ---- an event
 
   -- what the two gave, one behind the other
-  gave_both : (view : View) (so_far_there all found_there owed : List Command) → to_servers so_far_there ≡ [] → to_servers all ≡ to_servers found_there →
+  gave_behind : (view : View) (first found_there owed : List Command) → seen_of view (to_servers given) ≡ seen_of view (first ++ to_servers found_there) →
+      seen_of view (to_servers found_there) ++ seen_of view second ≡ seen_of view owed → seen_of view (to_servers given ++ second) ≡ seen_of view (first ++ owed)
+  gave_behind view first found_there owed one two =
+      seen_append view (to_servers given) second
+      ∙ (ap (λ l. l ++ seen_of view second) (one ∙ seen_append view first (to_servers found_there))
+      ∙ (append_assoc (seen_of view first) (seen_of view (to_servers found_there)) (seen_of view second)
+      ∙ (ap (λ l. seen_of view first ++ l) two ∙ sym (seen_append view first owed))))
+
+  gave_both : (view : View) (so_far_there all first found_there owed : List Command) → to_servers so_far_there ≡ [] → to_servers all ≡ first ++ to_servers found_there →
       seen_of view so_far_there ++ seen_of view given ≡ seen_of view all → seen_of view (to_servers found_there) ++ seen_of view second ≡ seen_of view owed →
-      seen_of view (to_servers given ++ second) ≡ seen_of view owed
-  gave_both view so_far_there all found_there owed none is one two =
+      seen_of view (to_servers given ++ second) ≡ seen_of view (first ++ owed)
+  gave_both view so_far_there all first found_there owed none is one two =
       let both : seen_of view (so_far_there ++ given) ≡ seen_of view all = seen_append view so_far_there given ∙ one in
       let said : to_servers (so_far_there ++ given) ≡ to_servers given = servers_append so_far_there given ∙ ap (λ l. l ++ to_servers given) none in
-      let there : seen_of view (to_servers given) ≡ seen_of view (to_servers found_there) =
+      let there : seen_of view (to_servers given) ≡ seen_of view (first ++ to_servers found_there) =
       ap (seen_of view) (sym said) ∙ (servers_alike view (so_far_there ++ given) all both ∙ ap (seen_of view) is) in
-      seen_append view (to_servers given) second ∙ (ap (λ l. l ++ seen_of view second) there ∙ two)
+      gave_behind view first found_there owed there two
 
   -- over these events of servers
   goes_to : (moment : ℕ) (event : Event) (place : Standing) (prefix : List (Timed Event)) (longer : List (Timed Event)) →
@@ -155,12 +172,12 @@ module _ (terms : Terms) (recorded : Request) (boxed : Box Stream) (after : Box 
       let P : List (Timed Event) → Type 0 = λ p. IsInSequence terms 0 after.value (chain.pass place p).stage p in
       let on : Standing = (chain.pass place more).stage in
       let there : IsInSequence terms 0 after.value on more = subst P same at in
-      let still : IsUnparked on.stage = passed_unparked place.stage (sight_over place more) unparked in
+      let still : IsUnparked on.stage = passed_unparked terms place.stage (sight_over place more) unparked in
       let next_there = follows_at terms recorded after child second on (prefix ++ e ∷ []) there still follows in
       onward (found_same terms recorded boxed place prefix is_child ∙ is) next_there.there
-      (λ view. gave_both view (chain.so_far place (all_of_servers prefix)) (owed_here chain on more) (found (chain.look on more))
+      (λ view. gave_both view (chain.so_far place (all_of_servers prefix)) (owed_over chain place more) (to_servers (chain.pass place more).owed) (found (chain.look on more))
       (found ((resend_chain terms recorded).look (goes_on on) (prefix ++ e ∷ []))) (waits_none place.stage (sight_over place (all_of_servers prefix)))
-      (owed_there terms recorded on more still) (gives view ∙ ap (λ p. seen_of view (owed_over chain place p)) same) (next_there.gives view))
+      (owed_passed terms recorded place more still) (gives view ∙ ap (λ p. seen_of view (owed_over chain place p)) same) (next_there.gives view))
 
   takes_there : (moment : ℕ) (event : Event) (place : Standing) (prefix : List (Timed Event)) → IsChild terms recorded (children.GoesOn boxed) (goes_on place) prefix → IsUnparked place.stage →
       Takes (http_chain sequence terms) (IsInSequence terms 0) after.value moment (of_servers event) given place (all_of_servers prefix) →
@@ -197,22 +214,23 @@ module _ (terms : Terms) (recorded : Request) (boxed : Box Stream) (after : Box 
       let seen : Sight = sight_over place heard in
       let asked : (resend_chain terms recorded).look (goes_on place) prefix ≡ Asks resumes.ask = found_same terms recorded boxed place prefix is_child ∙ resumes.asked in
       let led : IsUnparked turned.stage.stage = turned_unparked terms place.stage seen answer unparked (asked_there terms place.stage seen resumes.ask asked).0 in
-      let still : IsUnparked on.stage = passed_unparked turned.stage.stage (sight_over turned.stage heard) led in
+      let still : IsUnparked on.stage = passed_unparked terms turned.stage.stage (sight_over turned.stage heard) led in
       let next_there = follows_at terms recorded after child second on prefix resumes.place still follows in
-      let all : List Command = turned.owed ++ owed_here chain on heard in
-      let said : to_servers all ≡ to_servers turned.owed ++ to_servers (found (chain.look on heard)) =
-      servers_append turned.owed (owed_here chain on heard) ∙ ap (λ l. to_servers turned.owed ++ l) (owed_there terms recorded on heard still) in
+      let passed : List Command = to_servers (chain.pass turned.stage heard).owed in
+      let first : List Command = to_servers turned.owed in
+      let here : List Command = found (chain.look on heard) in
+      let owed : List Command = found ((resend_chain terms recorded).look (goes_on on) prefix) in
+      let said : to_servers (turned.owed ++ owed_over chain turned.stage heard) ≡ (first ++ passed) ++ to_servers here =
+      servers_append turned.owed (owed_over chain turned.stage heard)
+      ∙ (ap (λ l. first ++ l) (owed_passed terms recorded turned.stage heard still) ∙ sym (append_assoc first passed (to_servers here))) in
       record {
         ask = resumes.ask;
         asked = asked;
         place = next_there.there;
         gives = λ view.
-            seen_append view (to_servers given) second
-            ∙ (ap (λ l. l ++ seen_of view second)
-            (servers_alike view given all (resumes.gives view) ∙ (ap (seen_of view) said ∙ seen_append view (to_servers turned.owed) (to_servers (found (chain.look on heard)))))
-            ∙ (append_assoc (seen_of view (to_servers turned.owed)) (seen_of view (to_servers (found (chain.look on heard)))) (seen_of view second)
-            ∙ (ap (λ l. seen_of view (to_servers turned.owed) ++ l) (next_there.gives view)
-            ∙ sym (seen_append view (to_servers turned.owed) (found ((resend_chain terms recorded).look (goes_on on) prefix))))));
+            gave_behind view (first ++ passed) here owed
+            (servers_alike view given (turned.owed ++ owed_over chain turned.stage heard) (resumes.gives view) ∙ ap (seen_of view) said) (next_there.gives view)
+            ∙ ap (seen_of view) (append_assoc first passed owed);
       }
 
   going_resumes : (moment : ℕ) (reply : Reply) →

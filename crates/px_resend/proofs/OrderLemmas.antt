@@ -23,7 +23,7 @@ use Rattle.px_chain.specs.Sights.{Sight, sight_over}
 use Rattle.px_chain.specs.Stages.{busy, idle, next}
 use Rattle.px_chain.specs.Stages as flows
 use Rattle.px_chain.proofs.Quiet.{AllQuiet, EndsNone, IsAskOf, LooksQuiet, any_flow, no_flow}
-use Rattle.px_chain.proofs.QuietLemmas.{IsGoing, turn_led}
+use Rattle.px_chain.proofs.QuietLemmas.{IsGoing, pass_led, pass_quiet, turn_led}
 use Rattle.px_resend.specs.Chain.{Stage, asks_head, asks_whole, goes_on, look_by, over, pass, resend_chain, terms_by, turn_head, turn_whole, waiting}
 use Rattle.px_resend.specs.Due.{resend_due}
 use Rattle.px_resend.specs.Heard.{all_of_servers, to_servers}
@@ -151,7 +151,19 @@ module _ (terms : Terms) (stage : flows.Stage) (seen : Sight) (ask : Command) (a
   flow_ends reply index ends =
       ended_past index (turn_of terms stage seen reply).stage (turn_of terms stage seen reply).owed (turn_led terms any_flow stage seen reply flow_goes (is_any terms stage)).ends_none ends
 
-finished_passed : (stage : flows.Stage) (seen : Sight) → is_finished stage ≡ true → is_finished (pass_of stage seen) ≡ true
+-- where it passes
+passed_quiet : (terms : Terms) (stage : flows.Stage) (seen : Sight) → AllQuiet any_flow (to_servers (pass_of stage seen).owed)
+passed_quiet terms stage seen = quiet_left any_flow (pass_of stage seen).owed (pass_quiet terms any_flow stage seen (is_any terms stage))
+
+passed_ends : (terms : Terms) (index : ℕ) (stage : flows.Stage) (seen : Sight) → EndsOneOf index (to_servers (pass_of stage seen).owed) →
+    is_finished (sequence (pass_of stage seen).stage) ≡ true
+passed_ends terms index (idle at) seen ends = refl
+passed_ends terms index (busy at flow doing) seen ends =
+    let there = pass_of (busy at flow doing) seen in ended_past index there.stage there.owed (pass_led terms any_flow at flow doing seen tt).ends_none ends
+passed_ends terms index (next at) seen ends = refl
+passed_ends terms index flows.over seen ends = refl
+
+finished_passed : (stage : flows.Stage) (seen : Sight) → is_finished stage ≡ true → is_finished (sequence (pass_of stage seen).stage) ≡ true
 finished_passed (idle at) seen is = refl
 finished_passed (busy at flow doing) seen is = not_past is
 finished_passed (next at) seen is = refl
@@ -178,7 +190,16 @@ module _ (terms : Terms) (recorded : Request) where
   passes waiting (event ∷ prefix) = leads_on waiting _ (λ index past. past)
   passes (asks_head flow) prefix = leads_on (asks_head flow) (asks_head flow) (λ index past. past)
   passes (asks_whole flow) prefix = leads_on (asks_whole flow) (asks_whole flow) (λ index past. past)
-  passes (goes_on place) prefix = leads_on (goes_on place) _ (λ index past. finished_passed place.stage (sight_over place (all_of_servers prefix)) past)
+  passes (goes_on place) prefix =
+      let seen : Sight = sight_over place (all_of_servers prefix) in
+      let owed : List Command = to_servers (pass_of place.stage seen).owed in
+      record {
+        ordered = quiet_ordered owed (passed_quiet terms place.stage seen);
+        asks_none = λ index past. none_asked index owed (passed_quiet terms place.stage seen);
+        ends = λ index ends. passed_ends terms index place.stage seen ends;
+        keeps = λ index past. finished_passed place.stage seen past;
+        leads = refl;
+      }
   passes over prefix = leads_on over over (λ index past. past)
 
   no_ask : {A : Type 0} (ask : Command) → NotYet ≡ Asks ask → A

@@ -96,7 +96,9 @@ module _ (terms : Terms) (recorded : Request) where
   passes (asks_head flow) prefix below = leads_to_few 0 (asks_head flow) (omega arith) tt
   passes (asks_whole flow) prefix below = leads_to_few 0 (asks_whole flow) (omega arith) tt
   passes (goes_on place) prefix below =
-      let on = flows_count.passes place (all_of_servers prefix) below in leads_to_few (dialled_at place) _ on.few on.stays
+      let on = flows_count.passes place (all_of_servers prefix) below in
+      let owed : List Command = ((flows_of terms recorded).pass place (all_of_servers prefix)).owed in
+      record { silent = λ server beyond. ap bytes_in (server_line server owed) ∙ on.silent server beyond; few = on.few; stays = on.stays }
   passes over prefix below = leads_to_few 0 over (omega arith) tt
 
   looks : (stage : Stage) (prefix : List (Timed Event)) → AllBelow stage → (server : ℕ) → dials_at stage ≤ server → IsSilent server (found ((resend_chain terms recorded).look stage prefix))

@@ -56,9 +56,9 @@ abbrev pub place_by : Option Address → Place
 place_by None = places.Regular
 place_by (Some proxy) = places.Upstream proxy
 
--- how its flow is made
+-- how its flow is made: no body is streamed
 abbrev pub terms_by : ℕ → Option Address → Terms
-terms_by conv proxy = terms_of conv None (place_by proxy)
+terms_by conv proxy = record (terms_of conv None (place_by proxy)) { streams = false }
 
 -- ---- its flow
 
@@ -130,11 +130,14 @@ module _ (terms : Terms) (recorded : Request) where
   abbrev pub flows_of : Chain Standing Event Reply Command
   flows_of = http_chain sequence terms
 
+  abbrev pub turn_going : Turn Standing Command → Turn Stage Command
+  turn_going on = record { owed = to_servers on.owed; stage = goes_on on.stage }
+
   -- it begins with the first thing that is heard of it
   abbrev pub pass : Stage → List (Timed Event) → Turn Stage Command
   pass waiting [] = leads_to waiting
   pass waiting (event ∷ prefix) = leads_to (asks_head (first_flow terms recorded event.moment))
-  pass (goes_on place) prefix = leads_to (goes_on (flows_of.pass place (all_of_servers prefix)).stage)
+  pass (goes_on place) prefix = turn_going (flows_of.pass place (all_of_servers prefix))
   pass stage prefix = leads_to stage
 
   abbrev pub look : Stage → List (Timed Event) → Look Command
@@ -151,9 +154,6 @@ module _ (terms : Terms) (recorded : Request) where
   -- nothing is parked
   abbrev pub behind : Stage → List (Timed Event) → List Command
   behind stage prefix = []
-
-  abbrev pub turn_going : Turn Standing Command → Turn Stage Command
-  turn_going on = record { owed = to_servers on.owed; stage = goes_on on.stage }
 
   abbrev pub turn : Stage → List (Timed Event) → Timed Reply → Turn Stage Command
   turn (asks_head flow) prefix answer = turn_head recorded flow (all_of_servers prefix) answer.moment (taken_at_request_head flow.request answer.value)

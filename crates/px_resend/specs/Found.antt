@@ -6,7 +6,7 @@ use Rattle.px_event.specs.declared.command.Command.{Command}
 use Rattle.px_event.specs.Chain.{Look, Ends}
 use Rattle.px_exchange.specs.Endings.{shut_server}
 use Rattle.px_chain.specs.Sights.{Sight, server_in}
-use Rattle.px_chain.specs.Stages.{At, busy, connection, given_body, given_head, idle, next, request_body, response_body, response_head, upgraded}
+use Rattle.px_chain.specs.Stages.{At, busy, coming_down, connection, given_body, given_head, idle, next, request_body, response_body, response_head, upgraded}
 use Rattle.px_chain.specs.Stages as flows
 use Rattle.px_resend.specs.Chain.{finishes, look_by, to_servers_in}
 
@@ -18,7 +18,8 @@ found_by P (idle at) seen l none last goes = none at refl
 found_by P (busy at flow (request_body given)) seen l none last goes = goes
 found_by P (busy at flow connection) seen l none last goes = goes
 found_by P (busy at flow (response_head server sent)) seen l none last goes = goes
-found_by P (busy at flow (response_body server sent)) seen l none last goes = goes
+found_by P (busy at flow (response_body server sent most)) seen l none last goes = goes
+found_by P (busy at flow (coming_down server sent)) seen l none last goes = goes
 found_by P (busy at flow (upgraded server)) seen l none last goes = last at flow server refl
 found_by P (busy at flow given_head) seen l none last goes = goes
 found_by P (busy at flow given_body) seen l none last goes = goes

@@ -11,7 +11,7 @@ use Rattle.px_event.specs.View.{View, seen_of}
 use Rattle.px_core.specs.Conversation.{AllNamed}
 use Rattle.px_message.specs.declared.request.Request.{Request}
 use Rattle.px_exchange.specs.declared.terms.Terms.{Terms}
-use Rattle.px_chain.specs.Chain.{sequence}
+use Rattle.px_chain.specs.Chain.{is_sequence, sequence}
 use Rattle.px_chain.specs.Sights.{Sight, Standing, sight_over}
 use Rattle.px_chain.specs.Stages as flows
 use Rattle.px_chain.proofs.ChainLaws.{settles}
@@ -51,7 +51,9 @@ module _ (terms : Terms) (recorded : Request) where
 
   settled_going : (place : Standing) (prefix : List (Timed Event)) →
       IsSettled (resend_chain terms recorded) (goes_on ((flows_of terms recorded).pass place (all_of_servers prefix)).stage) prefix
-  settled_going place prefix = record { stays = ap goes_on ((settles sequence terms).at place (all_of_servers prefix)).stays; owes_nothing = refl }
+  settled_going place prefix =
+      let there = (settles sequence (is_sequence refl) terms).at place (all_of_servers prefix) in
+      record { stays = ap goes_on there.stays; owes_nothing = ap to_servers there.owes_nothing }
 
   settled_at : (stage : Stage) (prefix : List (Timed Event)) → IsSettled (resend_chain terms recorded) (pass terms recorded stage prefix).stage prefix
   settled_at waiting [] = record { stays = refl; owes_nothing = refl }

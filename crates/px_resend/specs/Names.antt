@@ -82,7 +82,9 @@ module _ (terms : Terms) (recorded : Request) where
   passed waiting (event ∷ prefix) is = (tt, refl)
   passed (asks_head flow) prefix is = (tt, is)
   passed (asks_whole flow) prefix is = (tt, is)
-  passed (goes_on place) prefix is = (tt, ((stays terms).pass place (all_of_servers prefix) is).1)
+  passed (goes_on place) prefix is =
+      let there = (stays terms).pass place (all_of_servers prefix) is in
+      (servers_named terms.conv ((flows_of terms recorded).pass place (all_of_servers prefix)).owed there.0, there.1)
   passed over prefix is = (tt, tt)
 
   looked : (stage : Stage) (prefix : List (Timed Event)) → IsIts stage → AllNamed terms.conv (found ((resend_chain terms recorded).look stage prefix))

@@ -1,6 +1,5 @@
 //! The flow of a request that is sent again.
 ghost use Rattle.std.specs.Prelude.{◌≡◌, None, IfOk};
-ghost use Rattle.px_exchange.specs.Places.{terms_of};
 ghost use Rattle.px_resend.specs.Chain.{first_flow, head_of, place_by, proxy_in, terms_by, whole_flow};
 
 use px_exchange::flows::begin;
@@ -44,6 +43,7 @@ pub fn first_flow(
         conv,
         client: None,
         place: place_of(proxy)?,
+        streams: false,
     };
     let flow = begin(alloc, &terms, 0, head_of(alloc, request)?, moment)?;
     Ok(replayed(flow))

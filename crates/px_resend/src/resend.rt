@@ -5,10 +5,10 @@ ghost use Rattle.px_core.specs.Calls.{number_end};
 ghost use Rattle.px_event.specs.declared.ask.Hook.TheVariants.{RequestBody as AtWhole};
 ghost use Rattle.px_exchange.specs.Endings.{shut_server};
 ghost use Rattle.px_exchange.specs.Flows.{ask_of};
-ghost use Rattle.px_stream.specs.Anywhere.{Somewhere, TakesAnywhere};
+ghost use Rattle.px_stream.specs.Anywhere.{IsNew, Somewhere, TakesAnywhere};
 ghost use Rattle.px_stream.specs.Stands.{awaits as stream_awaits};
 ghost use Rattle.px_stream.specs.Tells.{outcome_in, phase_flow, sequence_left, upgraded_side};
-ghost use Rattle.px_resend.specs.Chain.{killed, proxy_in, whole_flow};
+ghost use Rattle.px_resend.specs.Chain.{first_at, killed, proxy_in, whole_flow};
 ghost use Rattle.px_resend.specs.Heard.{of_servers};
 ghost use Rattle.px_resend.specs.Kept.{awaited_by, going_left, left_by};
 ghost use Rattle.px_resend.specs.Stands.{IsSomewhere, ResendStands, awaits, terms_in};
@@ -233,15 +233,25 @@ impl Resend {
         ensures asks { IfOk result (λ next. AsksOnly (awaited_by next) out.old.items out.new.items) }
         ensures left { IfOk result (λ next. left_by next ≤ going_left) }
     {
+        let mut stream = self.opened()?;
+        let mut given = Vec::new(self.alloc);
+        stream.go_on_with(moment, flow, &mut given)?;
+        pass_on(given, out)?;
+        Ok(Child::GoesOn(stream))
+    }
+
+    // The stream of its flow, which was handed nothing yet.
+    fn opened(&self) -> Result<Box<Stream>, NoMemory>
+        ensures terms { IfOk result (λ stream. stream.value.terms ≡ terms_in self.now) }
+        ensures at { IfOk result (λ stream. stream.value.at ≡ first_at) }
+        ensures new { IfOk result (λ stream. IsNew stream.value) }
+    {
         let id = FlowId {
             conv: self.conv,
             index: 0,
         };
-        let mut stream = Stream::new(self.alloc, id, None, place_of(&self.proxy)?, 0)?;
-        let mut given = Vec::new(self.alloc);
-        stream.go_on_with(moment, flow, &mut given)?;
-        pass_on(given, out)?;
-        Ok(Child::GoesOn(Box::new(self.alloc, stream)?))
+        let stream = Stream::new(self.alloc, id, None, place_of(&self.proxy)?, 0, false)?;
+        Ok(Box::new(self.alloc, stream)?)
     }
 
     // Ends the flow by a kill.

@@ -22,7 +22,7 @@ use Rattle.px_exchange.specs.Texts.{interim_command, interim_commands, sends_on}
 use Rattle.px_chain.specs.Chain.{finds, leaves, leaving, look, so_far}
 use Rattle.px_said.specs.ClosedForm.{Point, dial_answers, is_whole, request_is_whole, said, said_final, said_from, said_item}
 use Rattle.px_chain.specs.Sights.{Sight, UsedBytes, answers_in, request_in, server_in, server_parked, sight_of}
-use Rattle.px_chain.specs.Stages.{At, Doing, Sent, Stage, busy, connection, given_body, given_head, idle, next, over, request_body, response_body, response_head, side_of, side_parked, upgraded}
+use Rattle.px_chain.specs.Stages.{At, Doing, Sent, Stage, busy, connection, given_body, given_head, idle, next, over, request_body, response_body, response_head, side_of, side_parked, upgraded, coming_down}
 use Rattle.px_chain.specs.Streams.{Since, bytes_of}
 use Rattle.px_said.proofs.ClosedFronts.{IsFront, IsSame, same_bytes, same_taken, waits_more}
 use Rattle.px_said.proofs.ClosedItems.{items_after, items_split}
@@ -114,13 +114,13 @@ module _ (terms : Terms) (events : List (Timed Event)) (all : List Command) wher
       abbrev all_answers : Answers
       all_answers = told terms events all side opened used.server flow.request
 
-      returned_stood : (how : Sent) → IsDoing terms events all flows at flow (response_body side how) opened used come sent replies → Stood (busy at flow (response_body side how)) seen sent prefix
+      returned_stood : (how : Sent) → IsDoing terms events all flows at flow (response_body side how None) opened used come sent replies → Stood (busy at flow (response_body side how None)) seen sent prefix
       returned_stood how s =
           let carried = answers_carried terms events all flows flow.request side opened used since prefix is_front in
           record {
             left = _;
             is = s.rest;
-            here = here_with (IsSame prefix events) seen.closed (leaves at flow (response_body side how) seen) (finds terms.place at flow (response_body side how) seen) [] [] _ refl
+            here = here_with (IsSame prefix events) seen.closed (leaves at flow (response_body side how None) seen) (finds terms.place at flow (response_body side how None) seen) [] [] _ refl
                 (early_said (without_response flow) closed_message seen.now (server_in side seen) true)
                 (returned_tells (IsSame prefix events) flow (server_in side seen) (behind_answer terms events all flows at side opened used s.went s.from flow.request replies)
                 found_answers.final all_answers.final seen.now seen.closed carried.final
@@ -192,8 +192,10 @@ module _ (terms : Terms) (events : List (Timed Event)) (all : List Command) wher
     doing_stood at flow connection since opened used come sent replies prefix stands is = connecting_stood at flow since opened used come sent replies prefix stands
     doing_stood at flow (response_head side how) since opened used come sent replies prefix stands is =
         answering_stood at flow side since opened used come sent replies prefix is stands how
-    doing_stood at flow (response_body side how) since opened used come sent replies prefix stands is =
+    doing_stood at flow (response_body side how None) since opened used come sent replies prefix stands is =
         returned_stood at flow side since opened used come sent replies prefix is how stands
+    doing_stood at flow (response_body side how (Some most)) since opened used come sent replies prefix stands is = absurd stands
+    doing_stood at flow (coming_down side how) since opened used come sent replies prefix stands is = absurd stands
     doing_stood at flow (upgraded side) since opened used come sent replies prefix stands is =
         record { left = []; is = stands.is_all ∙ sym (append-nil (said sent)); here = over_here (IsSame prefix events) _ }
     doing_stood at flow given_head since opened used come sent replies prefix stands is = absurd stands
@@ -251,7 +253,7 @@ module _ (terms : Terms) (events : List (Timed Event)) (all : List Command) wher
           from = s.from;
           rest = s.rest;
         }
-    doing_more at flow (response_body side how) since opened used sent replies prefix is none s =
+    doing_more at flow (response_body side how None) since opened used sent replies prefix is none s =
         let seen = sight_of (Some side) since opened used prefix in
         record {
           went = s.went;
@@ -263,6 +265,8 @@ module _ (terms : Terms) (events : List (Timed Event)) (all : List Command) wher
           response = s.response;
           rest = s.rest;
         }
+    doing_more at flow (response_body side how (Some most)) since opened used sent replies prefix is none stands = absurd stands
+    doing_more at flow (coming_down side how) since opened used sent replies prefix is none stands = absurd stands
     doing_more at flow (upgraded side) since opened used sent replies prefix is none stands = stands
     doing_more at flow given_head since opened used sent replies prefix is none stands = absurd stands
     doing_more at flow given_body since opened used sent replies prefix is none stands = absurd stands

@@ -1,6 +1,6 @@
 -- What commands say, and whether they ask; and what replies that go on are taken for.
-use Rattle.std.proofs.Common.{◌≡◌, ℕ, zero, suc, Bool, true, false, ◌==◌, List, [], ◌∷◌, ◌++◌, Option, Some, refl, ap, sym, ◌∙◌, subst, append_assoc}
-use Rattle.std.specs.Prelude.{map}
+use Rattle.std.proofs.Common.{◌≡◌, ℕ, zero, suc, Bool, true, false, ◌==◌, List, [], ◌∷◌, ◌++◌, Option, Some, refl, ap, sym, ◌∙◌, subst, append_assoc, None}
+use Rattle.std.specs.Prelude.{map, ◌&&◌, not, Result, Ok, Err}
 use Rattle.std.proofs.lemmas.Grind.{flat_map-append}
 use Rattle.px_message.specs.declared.fault.Fault.{Fault}
 use Rattle.px_message.specs.declared.flow.Flow.{Flow}
@@ -23,6 +23,14 @@ use Rattle.px_exchange.specs.Replies.{taken_at_request_body, taken_at_request_he
 use Rattle.px_exchange.specs.Texts.{interim_command, interim_commands, meets_expectation, returned_text, sends_on}
 use Rattle.px_exchange.specs.Requests.{is_head, is_http11}
 use Rattle.px_said.specs.ClosedForm.{GoesOn, KeepsFlow, dial_answers, fault_said, first_flows, said, said_of}
+use Rattle.px_message.specs.declared.length.Length.{Length}
+use Rattle.px_message.specs.Length.{has_no_body}
+use Rattle.px_read.specs.Items.{response_item}
+use Rattle.px_read.specs.Laws.{head_in}
+use Rattle.px_parts.specs.Streamed.{response_says, streamed_by, streams_behind}
+use Rattle.px_parts.specs.Texts.{final_bytes}
+use Rattle.px_chain.specs.Coming.{allowed_by, streams_by, streams_in, told_with}
+use Rattle.px_chain.specs.Sights.{Sight}
 
 pub said_join : (a b : List Command) → said (a ++ b) ≡ said a ++ said b
 said_join a b = flat_map-append said_of a b
@@ -214,6 +222,44 @@ no_dial flow reply.Kill replies keeps = absurd keeps
 no_dial flow reply.Discard replies keeps = absurd keeps
 no_dial flow reply.Dialled replies keeps = absurd keeps
 no_dial flow (reply.Refused fault) replies keeps = absurd keeps
+
+-- ---- what a reply that goes on allows
+
+told_none : (given : Option Response) → told_with given None ≡ None
+told_none None = refl
+told_none (Some response) = refl
+
+-- no body is streamed
+pub allows_none : (streams : Bool) (flow : Flow) (value : Reply) → KeepsFlow flow value → allowed_by streams value ≡ None
+allows_none true flow (reply.Go given streamed) keeps = ap (told_with given.response) keeps.2 ∙ told_none given.response
+allows_none false flow (reply.Go given streamed) keeps = refl
+allows_none streams flow (reply.Respond response) keeps = absurd keeps
+allows_none streams flow reply.Kill keeps = absurd keeps
+allows_none streams flow reply.Discard keeps = absurd keeps
+allows_none streams flow reply.Dialled keeps = absurd keeps
+allows_none streams flow (reply.Refused fault) keeps = absurd keeps
+
+kept_length : (says : Result Length Fault) (heard : ℕ) → streamed_by says None heard ≡ false
+kept_length (Ok length) heard = refl
+kept_length (Err fault) heard = refl
+
+kept_behind : (says : ResponseHead → Result Length Fault) (head : Option ResponseHead) (heard : ℕ) → streams_behind says head None heard ≡ false
+kept_behind says None heard = refl
+kept_behind says (Some head) heard = kept_length (says head) heard
+
+both_false : (a b : Bool) → b ≡ false → (a && b) ≡ false
+both_false true b is = is
+both_false false b is = refl
+
+kept_by : (given : Option Response) (message : Request) (closed : Bool) (bytes : List ℕ) → streams_by given message None closed bytes ≡ false
+kept_by None message closed bytes = refl
+kept_by (Some response) message closed bytes =
+    let asked_head : Bool = is_head message.method in
+    both_false (not (has_no_body response.status asked_head)) _
+    (kept_behind (response_says asked_head) (head_in (response_item asked_head closed (final_bytes asked_head closed bytes))) _)
+
+pub streams_none : (flow : Flow) (seen : Sight) → streams_in flow None seen ≡ false
+streams_none flow seen = kept_by flow.response flow.request seen.shut seen.server
 
 -- ---- what a reply that goes on is taken for
 

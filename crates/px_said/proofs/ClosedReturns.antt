@@ -1,5 +1,5 @@
 -- Where a reply that goes on leads: behind a request that was sent on.
-use Rattle.std.proofs.Common.{◌≡◌, ℕ, ◌+◌, Bool, true, false, ◌==◌, List, [], ◌∷◌, ◌++◌, length, Option, Some, suc, refl, ap, sym, ◌∙◌, subst, arith}
+use Rattle.std.proofs.Common.{◌≡◌, ℕ, ◌+◌, Bool, true, false, ◌==◌, List, [], ◌∷◌, ◌++◌, length, Option, Some, suc, refl, ap, sym, ◌∙◌, subst, arith, None}
 use Rattle.std.specs.Prelude.{◌||◌, ◌&&◌, if◌then◌else◌, not, is_some, take}
 use Rattle.std.proofs.lemmas.List.{append-nil}
 use Rattle.px_message.specs.declared.fault.Fault.{Fault}
@@ -26,7 +26,7 @@ use Rattle.px_exchange.specs.declared.terms.Terms.{Terms}
 use Rattle.px_exchange.specs.Endings.{closed_message, connection_goes_on, ends_by_fault, ends_early, finished, shut_unless, without_response}
 use Rattle.px_exchange.specs.Finds.{is_relayed, look_answer, look_answer_head, look_returned, or_leaves}
 use Rattle.px_exchange.specs.Flows.{ask_of, filled, response_of, with_answer, with_returned}
-use Rattle.px_exchange.specs.Replies.{taken_at_response_body}
+use Rattle.px_exchange.specs.Replies.{taken_at_response_body, taken_at_response_head}
 use Rattle.px_exchange.specs.Requests.{is_head}
 use Rattle.px_exchange.specs.Texts.{interim_commands, returned_text}
 use Rattle.px_chain.specs.Chain.{behind_flow, finish_by, sequence, turn_answer, turn_answer_head, turn_read_whole, turn_response, turn_returned, turn_taken_answer, turn_taken_whole}
@@ -35,7 +35,7 @@ use Rattle.px_chain.specs.Sights.{Sight, UsedBytes, answers_in, server_in, sight
 use Rattle.px_chain.specs.Stages.{At, Stage, side_of, unparked}
 use Rattle.px_chain.specs.Streams.{Since}
 use Rattle.px_said.proofs.ClosedFronts.{IsFront, IsSame, answers_grow, front_length, least_at, same_answers, same_taken}
-use Rattle.px_said.proofs.ClosedQuiet.{no_dial, said_join, says_finished, says_interim, takes_response_body, takes_response_head}
+use Rattle.px_said.proofs.ClosedQuiet.{no_dial, said_join, says_finished, says_interim, takes_response_body, takes_response_head, allows_none}
 use Rattle.px_said.proofs.ClosedStages.{Answering, IsAt, Returning, further_behind, goes_further, standing, told}
 use Rattle.px_said.proofs.ClosedTurns.{Leads, asks_nothing, asks_same, ending_led, ends_ask, goes_on}
 
@@ -126,7 +126,7 @@ module _ (terms : Terms) (events : List (Timed Event)) (all : List Command) (flo
       interim = interim_commands flow.request found_answers.interim
 
       relayed_led : (head : ReadResponse) → head_in found_answers.final ≡ Some head → is_relayed head.code ≡ true →
-          Leads terms events all flows (turn_answer_head at flow side head seen answer) opened leads_head come sent interim
+          Leads terms events all flows (turn_answer_head terms at flow side head seen answer) opened leads_head come sent interim
           (ask_of (with_answer flow (response_of head) seen.now) ResponseHead) waits rest value replies
       relayed_led head is relays goes =
           let whole = with_answer flow (response_of head) seen.now in
@@ -143,9 +143,9 @@ module _ (terms : Terms) (events : List (Timed Event)) (all : List Command) (flo
           ∙ (ap (λ l. interim_commands flow.request l ++ said_final flow.request all_answers.final (behind s.went s.from (dial_answers replies))) begun.0
           ∙ (ap (λ (o : Option ReadResponse). interim ++ said_headed flow.request o all_answers.final (behind s.went s.from (dial_answers replies))) there
           ∙ ap (λ b. interim ++ said_relayed b flow.request ends_here) relays)) in
-          let P : Taken Response → Type 0 = λ t. Leads terms events all flows
-          (turn_taken_answer at whole side t moment (server_in side seen) seen.closed) opened leads_head come sent interim asked waits rest value replies in
-          let led : P (taken.GoesOn (response_of head)) = λ on_it.
+          let P : Option ℕ → Taken Response → Type 0 = λ m t. Leads terms events all flows
+          (turn_taken_answer at whole side m t moment (server_in side seen) seen.closed) opened leads_head come sent interim asked waits rest value replies in
+          let led : P None (taken.GoesOn (response_of head)) = λ on_it.
           goes_on flows
           (record {
             went = s.went;
@@ -157,11 +157,12 @@ module _ (terms : Terms) (events : List (Timed Event)) (all : List Command) (flo
             rest = goes_further all sent (interim ++ asked ∷ []) interim _ ends_here s.rest more_is (on (no_dial whole value replies on_it.0));
           })
           refl on_it.1 in
-          subst P (sym (takes_response_head whole (response_of head) value refl goes.0)) led goes
+          let taken_so : P None (taken_at_response_head (response_of head) value) = subst (λ t. P None t) (sym (takes_response_head whole (response_of head) value refl goes.0)) led in
+          subst (λ m. P m (taken_at_response_head (response_of head) value)) (sym (allows_none terms.streams whole value goes.0)) taken_so goes
 
       head_led : (head : ReadResponse) (relays : Bool) → is_relayed head.code ≡ relays → head_in found_answers.final ≡ Some head →
           or_leaves seen.closed (early flow seen (server_in side seen)) (look_answer_head flow head seen.now (server_in side seen) seen.closed) ≡ Asks ask →
-          Leads terms events all flows (turn_answer_head at flow side head seen answer) opened leads_head come sent interim ask waits rest value replies
+          Leads terms events all flows (turn_answer_head terms at flow side head seen answer) opened leads_head come sent interim ask waits rest value replies
       head_led head false relays is asks =
           let P : Bool → Type 0 = λ b. or_leaves seen.closed (early flow seen (server_in side seen))
           (if not b then Ends (ends_by_fault flow BadResponse seen.now (server_in side seen) seen.closed)
@@ -171,12 +172,12 @@ module _ (terms : Terms) (events : List (Timed Event)) (all : List Command) (flo
           let P : Bool → Type 0 = λ b. or_leaves seen.closed (early flow seen (server_in side seen))
           (if not b then Ends (ends_by_fault flow BadResponse seen.now (server_in side seen) seen.closed)
           else Asks (ask_of (with_answer flow (response_of head) seen.now) ResponseHead)) ≡ Asks ask in
-          let Q : Command → Type 0 = λ c. Leads terms events all flows (turn_answer_head at flow side head seen answer) opened leads_head come sent interim c waits rest value replies in
+          let Q : Command → Type 0 = λ c. Leads terms events all flows (turn_answer_head terms at flow side head seen answer) opened leads_head come sent interim c waits rest value replies in
           subst Q (asks_same _ ask (subst P relays asks)) (relayed_led head is relays)
 
       pub answer_led : (item : Item ReadResponse) → found_answers.final ≡ item →
           or_leaves seen.closed (early flow seen (server_in side seen)) (look_answer flow item seen.now (server_in side seen) seen.closed) ≡ Asks ask →
-          Leads terms events all flows (turn_answer at flow side item seen answer) opened leads_head come sent interim ask waits rest value replies
+          Leads terms events all flows (turn_answer terms at flow side item seen answer) opened leads_head come sent interim ask waits rest value replies
       answer_led missing is asks = absurd (asks_nothing seen.closed _ ask asks)
       answer_led (part head body) is asks = head_led head (is_relayed head.code) refl (ap head_in is) asks
       answer_led (complete head body trailers size) is asks = head_led head (is_relayed head.code) refl (ap head_in is) asks

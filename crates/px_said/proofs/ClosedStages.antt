@@ -135,7 +135,7 @@ module _ (terms : Terms) (events : List (Timed Event)) (all : List Command) wher
     IsDoing at flow (request_body None) opened used come sent left = Begun at flow.request opened used come sent left
     IsDoing at flow connection opened used come sent left = Connecting at flow.request opened used come sent left
     IsDoing at flow (response_head side how) opened used come sent left = Answering at flow.request side opened used come sent left
-    IsDoing at flow (response_body side how) opened used come sent left = Returning at flow side opened used come sent left
+    IsDoing at flow (response_body side how None) opened used come sent left = Returning at flow side opened used come sent left
     IsDoing at flow (upgraded side) opened used come sent left = Ended sent
     IsDoing at flow _ opened used come sent left = ⊥
 

@@ -13,34 +13,35 @@ use Rattle.px_event.proofs.Reach.{reach_all, reach_values}
 use Rattle.px_event.proofs.Walk.{walk_on}
 use Rattle.px_exchange.specs.EndOrder.{FoundInOrder, OnlyCloses}
 use Rattle.px_exchange.specs.declared.terms.Terms.{Terms}
-use Rattle.px_chain.specs.Chain.{behind, http_chain, leaving, look, opened_by, pass, sequence, so_far, turn, used_by_pass}
+use Rattle.px_chain.specs.Chain.{behind, http_chain, leaving, look, opened_by, pass, sequence, so_far, turn, used_by_pass, goes_to, pass_kept, used_by_kept}
 use Rattle.px_said.specs.ClosedForm.{GoesOn, first_flows, flows_behind, said, said_of_flows}
 use Rattle.px_chain.specs.Sights.{Sight, Standing, UsedBytes, answers_in, dials_at, request_in, sight_of, sight_over, used_by_turn}
-use Rattle.px_chain.specs.Stages.{At, Stage, busy, connection, given_body, given_head, idle, next, over, request_body, response_body, response_head, side_of, side_parked, upgraded}
+use Rattle.px_chain.specs.Stages.{At, Stage, busy, connection, given_body, given_head, idle, next, over, request_body, response_body, response_head, side_of, side_parked, upgraded, coming_down}
 use Rattle.px_chain.specs.Streams.{Since, client_closed}
 use Rattle.px_said.specs.Walks.{Walk, answered, due_from, heard, point_at}
 use Rattle.px_said.proofs.ClosedExact.{stage_more, stage_stood}
 use Rattle.px_said.proofs.ClosedFronts.{IsFront, IsSame, front_of, same_of, still_open}
 use Rattle.px_said.proofs.ClosedLooks.{IsLast}
-use Rattle.px_said.proofs.ClosedQuiet.{Keeps, Skips, closes_said, end_said, said_join, says_interim}
+use Rattle.px_said.proofs.ClosedQuiet.{Keeps, Skips, closes_said, end_said, said_join, says_interim, streams_none}
 use Rattle.px_said.proofs.ClosedReturns.{answer_led, returned_led}
 use Rattle.px_said.proofs.ClosedStages.{IsAt}
 use Rattle.px_said.proofs.ClosedTurns.{Leads, Led, behind_these, body_led, dial_led, ends_ask, goes_on, has_ended, idle_led}
 use Rattle.px_chain.proofs.EndLemmas.{behind_closes, looks_in_order}
+use Rattle.px_chain.specs.Coming.{came_in, streaming}
 
 -- ---- what was owed before is owed in front
 
 module _ {S E R A : Type 0} (chain : Chain S E R A) (a : List A) where
-  abbrev with_these : Reached S E A → Reached S E A
+  abbrev pub with_these : Reached S E A → Reached S E A
   with_these here = record here { before = a ++ here.before }
 
-  reach_by_behind : (l : Look A) (further here other there : Reached S E A) → further ≡ with_these other → here ≡ with_these there →
+  pub reach_by_behind : (l : Look A) (further here other there : Reached S E A) → further ≡ with_these other → here ≡ with_these there →
       reach_by l further here ≡ with_these (reach_by l other there)
   reach_by_behind NotYet further here other there on at = on
   reach_by_behind (Asks ask) further here other there on at = at
   reach_by_behind (Ends owed) further here other there on at = at
 
-  reach_behind : (last : Stamp) (before : List A) (s : S) (f : List (Timed E)) (es : List (Stamped E)) →
+  pub reach_behind : (last : Stamp) (before : List A) (s : S) (f : List (Timed E)) (es : List (Stamped E)) →
       reach chain last (a ++ before) s f es ≡ with_these (reach chain last before s f es)
   reach_behind last before s f [] =
       let on = chain.pass s f in
@@ -53,7 +54,7 @@ module _ {S E R A : Type 0} (chain : Chain S E R A) (a : List A) where
       ∙ reach_behind last (before ++ on.owed) on.stage (f ++ worked_off last e ∷ []) es)
       (ap (λ b. record { before = b; stage = on.stage; prefix = f; rest = e ∷ es }) joined)
 
-  walk_by_behind : (l : Look A) (onward other : A → Stop S E R A) (stop there : Stop S E R A) →
+  pub walk_by_behind : (l : Look A) (onward other : A → Stop S E R A) (stop there : Stop S E R A) →
       ((ask : A) → owed_at chain (onward ask) ≡ a ++ owed_at chain (other ask)) → owed_at chain stop ≡ a ++ owed_at chain there →
       owed_at chain (walk_by l onward stop) ≡ a ++ owed_at chain (walk_by l other there)
   walk_by_behind NotYet onward other stop there on at = at
@@ -84,7 +85,8 @@ so_far_skips (busy at flow (request_body given)) seen may_wait rest replies goes
 so_far_skips (busy at flow connection) seen may_wait rest replies goes = goes
 so_far_skips (busy at flow (response_head side how)) seen may_wait rest replies goes =
     (says_interim flow.request (answers_in flow.request seen).interim).skips may_wait rest replies goes
-so_far_skips (busy at flow (response_body side how)) seen may_wait rest replies goes = goes
+so_far_skips (busy at flow (response_body side how most)) seen may_wait rest replies goes = goes
+so_far_skips (busy at flow (coming_down side how)) seen may_wait rest replies goes = goes
 so_far_skips (busy at flow (upgraded side)) seen may_wait rest replies goes = goes
 so_far_skips (busy at flow given_head) seen may_wait rest replies goes = goes
 so_far_skips (busy at flow given_body) seen may_wait rest replies goes = goes
@@ -96,7 +98,8 @@ so_far_keeps (idle at) seen more rest = refl
 so_far_keeps (busy at flow (request_body given)) seen more rest = refl
 so_far_keeps (busy at flow connection) seen more rest = refl
 so_far_keeps (busy at flow (response_head side how)) seen more rest = (says_interim flow.request (answers_in flow.request seen).interim).keeps more rest
-so_far_keeps (busy at flow (response_body side how)) seen more rest = refl
+so_far_keeps (busy at flow (response_body side how most)) seen more rest = refl
+so_far_keeps (busy at flow (coming_down side how)) seen more rest = refl
 so_far_keeps (busy at flow (upgraded side)) seen more rest = refl
 so_far_keeps (busy at flow given_head) seen more rest = refl
 so_far_keeps (busy at flow given_body) seen more rest = refl
@@ -121,19 +124,30 @@ waits_alone (commands.Done flow) more goes = tt
 
 module _ (terms : Terms) (events : List (Timed Event)) (all : List Command) where
   module _ (flows : ℕ) where
-    pass_at : (stage : Stage) (seen : Sight) (opened : ℕ) (used : UsedBytes) (come : ℕ) (sent : List Command) (left : List Reply) → IsAt terms events all flows stage opened used come sent left →
-        IsAt terms events all flows (pass stage seen) opened (used_by_pass stage seen used) come sent left
-    pass_at (idle at) seen opened used come sent left is = is
-    pass_at (busy at flow (request_body None)) seen opened used come sent left is = is
-    pass_at (busy at flow (request_body (Some response))) seen opened used come sent left is = absurd is
-    pass_at (busy at flow connection) seen opened used come sent left is = is
-    pass_at (busy at flow (response_head side how)) seen opened used come sent left is = is
-    pass_at (busy at flow (response_body side how)) seen opened used come sent left is = is
-    pass_at (busy at flow (upgraded side)) seen opened used come sent left is = is
-    pass_at (busy at flow given_head) seen opened used come sent left is = absurd is
-    pass_at (busy at flow given_body) seen opened used come sent left is = absurd is
-    pass_at (next at) seen opened used come sent left is = absurd is
-    pass_at over seen opened used come sent left is = is
+    -- a stage at which it may stand does not pass
+    record Stays (stage : Stage) (seen : Sight) : Type 0 where
+      goes : pass stage seen ≡ goes_to stage
+      uses : (used : UsedBytes) → used_by_pass stage seen used ≡ used
+      onward : sequence stage ≡ stage
+
+    stays_at : (stage : Stage) (seen : Sight) (opened : ℕ) (used : UsedBytes) (come : ℕ) (sent : List Command) (left : List Reply) → IsAt terms events all flows stage opened used come sent left → Stays stage seen
+    stays_at (idle at) seen opened used come sent left is = record { goes = refl; uses = λ used. refl; onward = refl }
+    stays_at (busy at flow (request_body None)) seen opened used come sent left is = record { goes = refl; uses = λ used. refl; onward = refl }
+    stays_at (busy at flow (request_body (Some response))) seen opened used come sent left is = absurd is
+    stays_at (busy at flow connection) seen opened used come sent left is = record { goes = refl; uses = λ used. refl; onward = refl }
+    stays_at (busy at flow (response_head side how)) seen opened used come sent left is = record { goes = refl; uses = λ used. refl; onward = refl }
+    stays_at (busy at flow (response_body side how None)) seen opened used come sent left is = record {
+      goes = ap (λ b. pass_kept b at flow side how None seen) (streams_none flow seen);
+      uses = λ used. ap (λ b. used_by_kept b (came_in (streaming flow) seen) used) (streams_none flow seen);
+      onward = refl;
+    }
+    stays_at (busy at flow (response_body side how (Some most))) seen opened used come sent left is = absurd is
+    stays_at (busy at flow (coming_down side how)) seen opened used come sent left is = absurd is
+    stays_at (busy at flow (upgraded side)) seen opened used come sent left is = record { goes = refl; uses = λ used. refl; onward = refl }
+    stays_at (busy at flow given_head) seen opened used come sent left is = absurd is
+    stays_at (busy at flow given_body) seen opened used come sent left is = absurd is
+    stays_at (next at) seen opened used come sent left is = absurd is
+    stays_at over seen opened used come sent left is = record { goes = refl; uses = λ used. refl; onward = refl }
 
     stage_led : (stage : Stage) (since : Since) (opened : ℕ) (used : UsedBytes) (prefix : List (Timed Event)) → IsFront prefix events → (sent : List Command) (replies : List Reply) (value : Reply) →
         IsAt terms events all flows stage opened used (length prefix) sent (value ∷ replies) → (moment : ℕ) (ask : Command) (may_wait : Bool) (rest : List Command) →
@@ -155,9 +169,11 @@ module _ (terms : Terms) (events : List (Timed Event)) (all : List Command) wher
     stage_led (busy at flow (response_head side how)) since opened used prefix is sent replies value stands moment ask may_wait rest asks =
         answer_led terms events all flows sent moment value may_wait rest replies since opened used prefix is ask at flow side stands
         (answers_in flow.request (sight_of (Some side) since opened used prefix)).final refl asks
-    stage_led (busy at flow (response_body side how)) since opened used prefix is sent replies value stands moment ask may_wait rest asks =
+    stage_led (busy at flow (response_body side how None)) since opened used prefix is sent replies value stands moment ask may_wait rest asks =
         returned_led terms events all flows sent moment value may_wait rest replies since opened used prefix is ask at flow side stands
         (answers_in flow.request (sight_of (Some side) since opened used prefix)).final refl asks
+    stage_led (busy at flow (response_body side how (Some most))) since opened used prefix is sent replies value stands moment ask may_wait rest asks = absurd stands
+    stage_led (busy at flow (coming_down side how)) since opened used prefix is sent replies value stands moment ask may_wait rest asks = absurd stands
     stage_led (busy at flow (upgraded side)) since opened used prefix is sent replies value stands moment ask may_wait rest asks = absurd (ends_ask [] ask asks)
     stage_led (busy at flow given_head) since opened used prefix is sent replies value stands moment ask may_wait rest asks = absurd stands
     stage_led (busy at flow given_body) since opened used prefix is sent replies value stands moment ask may_wait rest asks = absurd stands
@@ -196,18 +212,40 @@ module _ (terms : Terms) (events : List (Timed Event)) (all : List Command) wher
   reach_by_kept flows (Asks ask) further here sent left on at = at
   reach_by_kept flows (Ends owed) further here sent left on at = at
 
+  -- a place of the walk stays, and owes nothing where it passes
+  record NotPassed (s : Standing) (f : List (Timed Event)) : Type 0 where
+    same : (chain.pass s f).stage ≡ s
+    owes : (chain.pass s f).owed ≡ []
+
+  not_passed : (flows : ℕ) (s : Standing) (f : List (Timed Event)) (come : ℕ) (sent : List Command) (left : List Reply) → Stands flows s come sent left → NotPassed s f
+  not_passed flows s f come sent left is =
+      let seen : Sight = sight_over s f in
+      let used : UsedBytes = used_by_pass s.stage seen s.used in
+      let stays = stays_at flows s.stage seen s.opened s.used come sent left is in
+      let first = ap (λ t. sequence t.stage) stays.goes ∙ stays.onward in
+      let more = stays.uses s.used in
+      record {
+        same = λ i. record { stage = first i; since = s.since; opened = s.opened; used = more i };
+        owes = ap (λ t. t.owed) stays.goes;
+      }
+
   reach_kept : (flows : ℕ) (last : Stamp) (before : List Command) (s : Standing) (f : List (Timed Event)) (es : List (Stamped Event)) (sent : List Command) (left : List Reply) →
       before ≡ [] → IsAll f es → Stands flows s (length f) sent left → Kept flows (reach chain last before s f es) sent left
   reach_kept flows last before s f [] sent left none whole is =
-      record { none = append-nil before ∙ none; place = pass_at flows s.stage (sight_over s f) s.opened s.used (length f) sent left is }
+      let passes = not_passed flows s f (length f) sent left is in
+      record {
+        none = ap (λ l. before ++ l) passes.owes ∙ (append-nil before ∙ none);
+        place = subst (λ p. Stands flows p (length f) sent left) (sym passes.same) is;
+      }
   reach_kept flows last before s f (e ∷ es) sent left none whole is =
-      let still = append-nil before ∙ none in
+      let passes = not_passed flows s f (length f) sent left is in
+      let still = ap (λ l. before ++ l) passes.owes ∙ (append-nil before ∙ none) in
       let on = (chain.pass s f).stage in
-      let passed : Stands flows on (length f) sent left = pass_at flows s.stage (sight_over s f) s.opened s.used (length f) sent left is in
+      let passed : Stands flows on (length f) sent left = subst (λ p. Stands flows p (length f) sent left) (sym passes.same) is in
       let longer : length f + 1 ≡ length (f ++ worked_off last e ∷ []) = sym (length-append f (worked_off last e ∷ [])) in
       let P : ℕ → Type 0 = λ n. Stands flows on n sent left in
       reach_by_kept flows (chain.look on f) _ _ sent left
-      (λ found_none. reach_kept flows last (before ++ []) on (f ++ worked_off last e ∷ []) es sent left still (all_on last f e es whole)
+      (λ found_none. reach_kept flows last (before ++ (chain.pass s f).owed) on (f ++ worked_off last e ∷ []) es sent left still (all_on last f e es whole)
       (subst P longer (stage_more terms events all flows on.stage on.since on.opened on.used sent left f (front_in f (e ∷ es) whole) found_none passed)))
       (record { none = still; place = passed })
 

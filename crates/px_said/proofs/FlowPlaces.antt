@@ -1,10 +1,9 @@
 -- Each flow that is asked about begins where the walk comes by a place where a request is awaited.
-use Rattle.std.proofs.Common.{◌≡◌, ℕ, Bool, true, false, List, [], ◌∷◌, ◌++◌, map, Option, Some, None, refl, ap, sym, ◌∙◌, subst, append_assoc}
+use Rattle.std.proofs.Common.{◌≡◌, ℕ, Bool, true, false, List, [], ◌∷◌, ◌++◌, map, refl, ap, sym, ◌∙◌, subst, append_assoc}
 use Rattle.std.specs.Prelude.{⊤, if◌then◌else◌, not}
 use Rattle.std.proofs.lemmas.List.{append-nil}
 use Rattle.px_message.specs.declared.fault.Fault.TheVariants.{BadResponse}
 use Rattle.px_message.specs.declared.flow.Flow.{Flow}
-use Rattle.px_message.specs.declared.response.Response.{Response}
 use Rattle.px_event.specs.declared.ask.Ask.{Ask}
 use Rattle.px_event.specs.declared.ask.Ask.TheVariants as asks
 use Rattle.px_event.specs.declared.ask.Hook.TheVariants.{RequestHead, ResponseHead}
@@ -27,13 +26,13 @@ use Rattle.px_exchange.specs.declared.asked.Judged.TheVariants.{Accepted, Connec
 use Rattle.px_exchange.specs.declared.ending.Used.{Used}
 use Rattle.px_exchange.specs.declared.terms.Terms.{Terms}
 use Rattle.px_exchange.specs.Requests.{is_http11}
-use Rattle.px_chain.specs.Chain.{http_chain, leaving, look, pass, pass_body, sequence, so_far}
+use Rattle.px_chain.specs.Chain.{http_chain, leaving, look, sequence, so_far, look_coming}
 use Rattle.px_chain.specs.Sights.{Sight, Standing, answers_in, request_in, server_in, server_parked, sight_over}
-use Rattle.px_chain.specs.Stages.{At, Stage, busy, connection, given_body, given_head, idle, next, over, request_body, response_body, response_head, upgraded}
-use Rattle.px_said.specs.Walks.{ComesBy, FlowBegins, Walk, behind_reply, due_by_reply, due_from, goes_on, is_there}
+use Rattle.px_chain.specs.Stages.{At, Stage, busy, connection, given_body, given_head, idle, next, over, request_body, response_body, response_head, upgraded, coming_down}
+use Rattle.px_said.specs.Walks.{ComesBy, FlowBegins, Walk, behind_reply, due_by_reply, due_from, goes_on, is_there, due_by_passing, heard_on, hears, passed_on, passes}
 use Rattle.px_said.proofs.ClosedTurns.{asks_nothing, asks_same, ends_ask}
-use Rattle.px_said.proofs.ClosedWalk.{walk_behind}
-use Rattle.px_chain.proofs.EndLemmas.{behind_closes, looks_in_order, turns_in_order}
+use Rattle.px_said.proofs.ClosedWalk.{walk_behind, reach_behind, with_these}
+use Rattle.px_chain.proofs.EndLemmas.{behind_closes, looks_in_order, turns_in_order, passes_in_order}
 use Rattle.px_read.specs.declared.head.ResponseHead.{ResponseHead as AnswerHead}
 
 -- ---- commands without a question of a hook
@@ -83,7 +82,8 @@ so_far_none (idle at) seen = tt
 so_far_none (busy at flow (request_body given)) seen = tt
 so_far_none (busy at flow connection) seen = tt
 so_far_none (busy at flow (response_head side how)) seen = interim_if (is_http11 flow.request.version) (answers_in flow.request seen).interim
-so_far_none (busy at flow (response_body side how)) seen = tt
+so_far_none (busy at flow (response_body side how most)) seen = tt
+so_far_none (busy at flow (coming_down side how)) seen = tt
 so_far_none (busy at flow (upgraded side)) seen = tt
 so_far_none (busy at flow given_head) seen = tt
 so_far_none (busy at flow given_body) seen = tt
@@ -132,13 +132,12 @@ nothing_behind [] behind question is = let no : question ∷ behind ≡ [] = is 
 nothing_behind (first ∷ middle) behind question is = let no : first ∷ (middle ++ question ∷ behind) ≡ [] = is in cc
 
 -- what stands in front of it, where a reply was brought between
-more_begins : (before waiting brought middle owed : List Command) (ask : Command) (rest : List Command) → before ≡ waiting ++ ask ∷ rest → rest ≡ brought ++ middle → owed ≡ [] →
-    before ≡ (owed ++ (waiting ++ ask ∷ brought)) ++ middle
-more_begins before waiting brought middle owed ask rest front second none =
-    front
-    ∙ (ap (λ l. waiting ++ ask ∷ l) second
-    ∙ (sym (append_assoc waiting (ask ∷ brought) middle)
-    ∙ ap (λ b. (b ++ (waiting ++ ask ∷ brought)) ++ middle) (sym none)))
+more_begins : (before waiting brought middle owed : List Command) (ask : Command) (rest behind : List Command) → before ≡ owed ++ behind → behind ≡ waiting ++ ask ∷ rest →
+    rest ≡ brought ++ middle → before ≡ (owed ++ (waiting ++ ask ∷ brought)) ++ middle
+more_begins before waiting brought middle owed ask rest behind first front second =
+    first
+    ∙ (ap (λ l. owed ++ l) (front ∙ (ap (λ l. waiting ++ ask ∷ l) second ∙ sym (append_assoc waiting (ask ∷ brought) middle)))
+    ∙ sym (append_assoc owed (waiting ++ ask ∷ brought) middle))
 
 module _ (terms : Terms) (index : ℕ) (flow : Flow) where
   -- the question about a request's head
@@ -194,66 +193,83 @@ module _ (terms : Terms) (index : ℕ) (flow : Flow) where
   returned_asks told leaving (bad_head fault) moment used closed is = asks_nothing closed leaving question is
   returned_asks told leaving (bad_body fault head body) moment used closed is = ends_ask _ question is
 
+  coming_asks : (told : Flow) (leaving : List Command) (item : Item ReadResponse) (moment : ℕ) (used : Used) (closed : Bool) →
+      or_leaves closed leaving (look_coming told item moment used closed) ≡ Asks question → ⊥
+  coming_asks told leaving missing moment used closed is = asks_nothing closed leaving question is
+  coming_asks told leaving (part head body) moment used closed is = asks_nothing closed leaving question is
+  coming_asks told leaving (complete head body trailers size) moment used closed is = asks_nothing closed leaving question is
+  coming_asks told leaving (bad_head fault) moment used closed is = asks_nothing closed leaving question is
+  coming_asks told leaving (bad_body fault head body) moment used closed is = ends_ask _ question is
+
   asks_at : (stage : Stage) (seen : Sight) → look terms stage seen ≡ Asks question → AsksAt stage
   asks_at (idle at) seen is = record { at = at; is = refl; number = head_index at.flow (request_in seen) _ seen.now (server_parked at.parked seen) seen.closed is }
   asks_at (busy at told (request_body given)) seen is = absurd (body_asks told _ (request_in seen) seen.now (server_parked at.parked seen) seen.closed is)
   asks_at (busy at told connection) seen is = absurd (let same = asks_same _ question is in cc)
   asks_at (busy at told (response_head side how)) seen is = absurd (answer_asks told _ (answers_in told.request seen).final seen.now (server_in side seen) seen.closed is)
-  asks_at (busy at told (response_body side how)) seen is = absurd (returned_asks told _ (answers_in told.request seen).final seen.now (server_in side seen) seen.closed is)
+  asks_at (busy at told (response_body side how most)) seen is = absurd (returned_asks told _ (answers_in told.request seen).final seen.now (server_in side seen) seen.closed is)
+  asks_at (busy at told (coming_down side how)) seen is = absurd (coming_asks told _ (answers_in told.request seen).final seen.now (server_in side seen) seen.closed is)
   asks_at (busy at told (upgraded side)) seen is = absurd (ends_ask _ question is)
   asks_at (busy at told given_head) seen is = absurd (let same = asks_same _ question is in cc)
   asks_at (busy at told given_body) seen is = absurd (let same = asks_same _ question is in cc)
   asks_at (next at) seen is = absurd (ends_ask _ question is)
   asks_at over seen is = absurd (ends_ask _ question is)
 
-  -- ---- where the search for it began
-
-  body_passed : (at : At) (told : Flow) (given : Option Response) (item : Item ReadRequest) (now : ℕ) (there : At) → pass_body at told given item now ≡ idle there → ⊥
-  body_passed at told None missing now there is = cc
-  body_passed at told None (part head body) now there is = cc
-  body_passed at told None (complete head body trailers used) now there is = cc
-  body_passed at told None (bad_head fault) now there is = cc
-  body_passed at told None (bad_body fault head body) now there is = cc
-  body_passed at told (Some response) missing now there is = cc
-  body_passed at told (Some response) (part head body) now there is = cc
-  body_passed at told (Some response) (complete head body trailers used) now there is = cc
-  body_passed at told (Some response) (bad_head fault) now there is = cc
-  body_passed at told (Some response) (bad_body fault head body) now there is = cc
-
-  pass_idle : (stage : Stage) (seen : Sight) (there : At) → pass stage seen ≡ idle there → stage ≡ idle there
-  pass_idle (idle at) seen there is = is
-  pass_idle (busy at told (request_body given)) seen there is = absurd (body_passed at told given (request_in seen) seen.now there is)
-  pass_idle (busy at told connection) seen there is = is
-  pass_idle (busy at told (response_head side how)) seen there is = is
-  pass_idle (busy at told (response_body side how)) seen there is = is
-  pass_idle (busy at told (upgraded side)) seen there is = is
-  pass_idle (busy at told given_head) seen there is = is
-  pass_idle (busy at told given_body) seen there is = is
-  pass_idle (next at) seen there is = is
-  pass_idle over seen there is = is
+  -- ---- where a search leads
 
   abbrev chain : Chain Standing Event Reply Command
   chain = http_chain sequence terms
 
-  -- nothing was owed by the search, and it began where it ended if a request is awaited there
-  record Searched (from : Stage) (here : Reached Standing Event Command) : Type 0 where
-    pub none : here.before ≡ []
-    pub idle : (there : At) → here.stage.stage ≡ idle there → from ≡ idle there
+  reach_by_none : (l : Look Command) (further here : Reached Standing Event Command) → AsksNone further.before → AsksNone here.before → AsksNone (reach_by l further here).before
+  reach_by_none NotYet further here on at = on
+  reach_by_none (Asks ask) further here on at = at
+  reach_by_none (Ends owed) further here on at = at
 
-  searched_by : (from : Stage) (l : Look Command) (further here : Reached Standing Event Command) → Searched from further → Searched from here → Searched from (reach_by l further here)
-  searched_by from NotYet further here on at = on
-  searched_by from (Asks ask) further here on at = at
-  searched_by from (Ends owed) further here on at = at
+  -- no hook is asked by what is owed where it passes
+  searched_none : (last : Stamp) (before : List Command) (s : Standing) (f : List (Timed Event)) (es : List (Stamped Event)) → AsksNone before → AsksNone (reach chain last before s f es).before
+  searched_none last before s f [] none = both_none before (chain.pass s f).owed none (ends_none (chain.pass s f).owed (passes_in_order s.stage (sight_over s f)))
+  searched_none last before s f (e ∷ es) none =
+      let on = chain.pass s f in
+      let more = both_none before on.owed none (ends_none on.owed (passes_in_order s.stage (sight_over s f))) in
+      reach_by_none (chain.look on.stage f) _ _ (searched_none last (before ++ on.owed) on.stage (f ++ worked_off last e ∷ []) es more) more
 
-  searched : (last : Stamp) (before : List Command) (s : Standing) (f : List (Timed Event)) (es : List (Stamped Event)) → before ≡ [] → Searched s.stage (reach chain last before s f es)
-  searched last before s f [] none = record { none = append-nil before ∙ none; idle = pass_idle s.stage (sight_over s f) }
-  searched last before s f (e ∷ es) none =
-      let still = append-nil before ∙ none in
-      let on = (chain.pass s f).stage in
-      let further = searched last (before ++ []) on (f ++ worked_off last e ∷ []) es still in
-      searched_by s.stage (chain.look on f) _ _
-      (record { none = further.none; idle = λ there is. pass_idle s.stage (sight_over s f) there (further.idle there is) })
-      (record { none = still; idle = pass_idle s.stage (sight_over s f) })
+  -- the place to which it leads, and what is owed by then
+  abbrev led_to : Walk → Reached Standing Event Command → Walk
+  led_to here there = record here { place = there.stage; prefix = there.prefix; coming = there.rest }
+
+  abbrev Comes : Walk → Reached Standing Event Command → Type 0
+  Comes here there = ComesBy terms here (led_to here there) there.before
+
+  stops_at : (here : Walk) (e : Stamped Event) (es : List (Stamped Event)) → here.coming ≡ e ∷ es →
+      Comes here (record { before = [] ++ due_by_passing terms here; stage = (passed_on terms here).place; prefix = here.prefix; rest = e ∷ es })
+  stops_at here e es comes =
+      let there : Walk = passed_on terms here in
+      let P : List (Stamped Event) → Type 0 = λ l. ComesBy terms here (record there { coming = l }) (due_by_passing terms here) in
+      subst P comes (subst (λ l. ComesBy terms here there l) (append-nil (due_by_passing terms here)) (passes here there [] (is_there there)))
+
+  -- where it stops at once, or goes on
+  comes_by : (here : Walk) (e : Stamped Event) (es : List (Stamped Event)) (l : Look Command) → here.coming ≡ e ∷ es → chain.look (passed_on terms here).place here.prefix ≡ l →
+      (further : Reached Standing Event Command) → (l ≡ NotYet → Comes (heard_on terms here e es) further) →
+      Comes here (reach_by l (with_these chain (due_by_passing terms here) further)
+      (record { before = [] ++ due_by_passing terms here; stage = (passed_on terms here).place; prefix = here.prefix; rest = e ∷ es }))
+  comes_by here e es NotYet comes looks further on = hears here (led_to here further) e es further.before comes looks (on refl)
+  comes_by here e es (Asks ask) comes looks further on = stops_at here e es comes
+  comes_by here e es (Ends owed) comes looks further on = stops_at here e es comes
+
+  comes_to : (rs : List (Stamped Reply)) (last : Stamp) (s : Standing) (f : List (Timed Event)) (es : List (Stamped Event)) →
+      Comes (record { place = s; prefix = f; coming = es; replies = rs; last = last }) (reach chain last [] s f es)
+  comes_to rs last s f [] =
+      let here : Walk = record { place = s; prefix = f; coming = []; replies = rs; last = last } in
+      subst (λ l. ComesBy terms here (passed_on terms here) l) (append-nil (due_by_passing terms here)) (passes here (passed_on terms here) [] (is_there (passed_on terms here)))
+  comes_to rs last s f (e ∷ es) =
+      let here : Walk = record { place = s; prefix = f; coming = e ∷ es; replies = rs; last = last } in
+      let on = chain.pass s f in
+      let longer : List (Timed Event) = f ++ worked_off last e ∷ [] in
+      let further : Reached Standing Event Command = reach chain last [] on.stage longer es in
+      let there : Reached Standing Event Command = record { before = [] ++ on.owed; stage = on.stage; prefix = f; rest = e ∷ es } in
+      let same : reach chain last on.owed on.stage longer es ≡ with_these chain on.owed further =
+      ap (λ b. reach chain last b on.stage longer es) (sym (append-nil on.owed)) ∙ reach_behind chain on.owed last [] on.stage longer es in
+      subst (λ r. Comes here (reach_by (chain.look on.stage f) r there)) (sym same)
+      (comes_by here e es (chain.look on.stage f) refl refl further (λ none. comes_to rs last on.stage longer es))
 
   -- ---- the walk
 
@@ -275,46 +291,53 @@ module _ (terms : Terms) (index : ℕ) (flow : Flow) where
     parts_none = closes_ask parts (behind_closes reached.stage.stage (sight_over reached.stage reached.prefix))
 
     -- it is what is asked there
-    begins_here : (ask : Command) → chain.look reached.stage reached.prefix ≡ Asks ask → ask ≡ question → before ≡ waits ++ [] → FlowBegins terms here before index
-    begins_here ask asks same is =
-        let search = searched here.last [] here.place here.prefix here.coming refl in
+    begins_here : (ask : Command) (owed : List Command) → chain.look reached.stage reached.prefix ≡ Asks ask → ask ≡ question → before ≡ reached.before ++ owed → owed ≡ waits ++ [] →
+        FlowBegins terms here before index
+    begins_here ask owed asks same first is =
         let there = asks_at reached.stage.stage (sight_over reached.stage reached.prefix) (asks ∙ ap Asks same) in
+        let none : owed ≡ [] = is ∙ (append-nil waits ∙ idle_owes reached.stage.stage (sight_over reached.stage reached.prefix) there.at there.is) in
         record {
-          there = here;
+          there = led_to here reached;
           at = there.at;
-          awaits = search.idle there.at there.is;
+          awaits = there.is;
           flow = there.number;
-          comes = subst (ComesBy terms here here) (sym (is ∙ (append-nil waits ∙ idle_owes reached.stage.stage (sight_over reached.stage reached.prefix) there.at there.is)))
-              (is_there here);
+          comes = subst (ComesBy terms here (led_to here reached)) (sym (first ∙ (ap (λ l. reached.before ++ l) none ∙ append-nil reached.before)))
+              (comes_to here.replies here.last here.place here.prefix here.coming);
         }
 
-    by_asked : (ask : Command) (middle rest : List Command) → chain.look reached.stage reached.prefix ≡ Asks ask → before ≡ waits ++ middle → middle ++ question ∷ behind ≡ ask ∷ rest →
-        ((more : List Command) → before ≡ waits ++ ask ∷ more → more ++ question ∷ behind ≡ rest → FlowBegins terms here before index) → FlowBegins terms here before index
-    by_asked ask [] rest asks front is further = begins_here ask asks (sym (head_same question ask behind rest is)) front
-    by_asked ask (first ∷ more) rest asks front is further =
+    by_asked : (owed : List Command) → before ≡ reached.before ++ owed → (ask : Command) (middle rest : List Command) → chain.look reached.stage reached.prefix ≡ Asks ask → owed ≡ waits ++ middle →
+        middle ++ question ∷ behind ≡ ask ∷ rest → ((more : List Command) → owed ≡ waits ++ ask ∷ more → more ++ question ∷ behind ≡ rest → FlowBegins terms here before index) →
+        FlowBegins terms here before index
+    by_asked owed begun ask [] rest asks front is further = begins_here ask owed asks (sym (head_same question ask behind rest is)) begun front
+    by_asked owed begun ask (first ∷ more) rest asks front is further =
         further more (front ∙ ap (λ c. waits ++ c ∷ more) (head_same first ask (more ++ question ∷ behind) rest is)) (tail_same first ask (more ++ question ∷ behind) rest is)
 
     -- where it stopped
-    by_found : (l : Look Command) → chain.look reached.stage reached.prefix ≡ l → FoundInOrder l → waits ++ found_with parts l ≡ before ++ question ∷ behind → FlowBegins terms here before index
-    by_found NotYet looks order is =
-        let split = behind_quiet waits [] before behind _ flow (so_far_none reached.stage.stage (sight_over reached.stage reached.prefix)) (sym is) in
+    by_found : (owed : List Command) → before ≡ reached.before ++ owed → (l : Look Command) → chain.look reached.stage reached.prefix ≡ l → FoundInOrder l →
+        waits ++ found_with parts l ≡ owed ++ question ∷ behind → FlowBegins terms here before index
+    by_found owed begun NotYet looks order is =
+        let split = behind_quiet waits [] owed behind _ flow (so_far_none reached.stage.stage (sight_over reached.stage reached.prefix)) (sym is) in
         absurd (nothing_behind split.middle behind question split.is)
-    by_found (Asks ask) looks order is =
-        let split = behind_quiet waits (ask ∷ parts) before behind _ flow (so_far_none reached.stage.stage (sight_over reached.stage reached.prefix)) (sym is) in
-        by_asked ask split.middle parts looks split.front split.is
+    by_found owed begun (Asks ask) looks order is =
+        let split = behind_quiet waits (ask ∷ parts) owed behind _ flow (so_far_none reached.stage.stage (sight_over reached.stage reached.prefix)) (sym is) in
+        by_asked owed begun ask split.middle parts looks split.front split.is
         (λ more front left.
         let none = behind_quiet parts [] more behind _ flow parts_none (left ∙ sym (append-nil parts)) in
         absurd (nothing_behind none.middle behind question none.is))
-    by_found (Ends owed) looks order is =
-        let split = behind_quiet waits owed before behind _ flow (so_far_none reached.stage.stage (sight_over reached.stage reached.prefix)) (sym is) in
-        let none = behind_quiet owed [] split.middle behind _ flow (ends_none owed order) (split.is ∙ sym (append-nil owed)) in
+    by_found owed begun (Ends ending) looks order is =
+        let split = behind_quiet waits ending owed behind _ flow (so_far_none reached.stage.stage (sight_over reached.stage reached.prefix)) (sym is) in
+        let none = behind_quiet ending [] split.middle behind _ flow (ends_none ending order) (split.is ∙ sym (append-nil ending)) in
         absurd (nothing_behind none.middle behind question none.is)
+
+    -- nothing that is owed by the search is asked
+    reached_none : AsksNone reached.before
+    reached_none = searched_none here.last [] here.place here.prefix here.coming tt
 
     stopped : (unused : List (Stamped Reply)) → owed_at chain (stop_at here.last reached unused) ≡ before ++ question ∷ behind → FlowBegins terms here before index
     stopped unused is =
-        let search = searched here.last [] here.place here.prefix here.coming refl in
-        let P : List Command → Type 0 = λ b. b ++ (waits ++ found_with parts (chain.look reached.stage reached.prefix)) ≡ before ++ question ∷ behind in
-        by_found (chain.look reached.stage reached.prefix) refl (looks_in_order terms reached.stage.stage (sight_over reached.stage reached.prefix)) (subst P search.none is)
+        let owed = waits ++ found_with parts (chain.look reached.stage reached.prefix) in
+        let split = behind_quiet reached.before owed before behind _ flow reached_none (sym is) in
+        by_found split.middle split.front (chain.look reached.stage reached.prefix) refl (looks_in_order terms reached.stage.stage (sight_over reached.stage reached.prefix)) (sym split.is)
 
     by_walk : (l : Look Command) → chain.look reached.stage reached.prefix ≡ l → (onward : Command → Stop Standing Event Reply Command) (unused : List (Stamped Reply)) →
         ((ask : Command) → chain.look reached.stage reached.prefix ≡ Asks ask → owed_at chain (onward ask) ≡ before ++ question ∷ behind → FlowBegins terms here before index) →
@@ -330,7 +353,6 @@ module _ (terms : Terms) (index : ℕ) (flow : Flow) where
   begins (r ∷ rs) last s f es before behind is =
       let here : Walk = record { place = s; prefix = f; coming = es; replies = r ∷ rs; last = last } in
       let there = reach chain last [] s f es in
-      let search = searched last [] s f es refl in
       let on = chain.turn there.stage there.prefix (at_its_step r) in
       let waiting = chain.so_far there.stage there.prefix in
       let brought = chain.behind there.stage there.prefix ++ on.owed in
@@ -341,12 +363,14 @@ module _ (terms : Terms) (index : ℕ) (flow : Flow) where
       (λ ask asks due.
       let more = waiting ++ ask ∷ brought in
       let tail = owed_at chain (walk chain rs r.stamp [] on.stage there.prefix there.rest) in
-      let split : owed_at chain (walk chain rs r.stamp (there.before ++ more) on.stage there.prefix there.rest) ≡ waiting ++ (ask ∷ (brought ++ tail)) =
-      ap (λ b. owed_at chain (walk chain rs r.stamp (b ++ more) on.stage there.prefix there.rest)) search.none
-      ∙ (ap (λ b. owed_at chain (walk chain rs r.stamp b on.stage there.prefix there.rest)) (sym (append-nil more))
-      ∙ (walk_behind chain more rs r.stamp [] on.stage there.prefix there.rest ∙ append_assoc waiting (ask ∷ brought) tail)) in
-      let first = behind_quiet waiting (ask ∷ (brought ++ tail)) before behind _ flow (so_far_none there.stage.stage (sight_over there.stage there.prefix)) (sym due ∙ split) in
-      by_asked here before behind ask first.middle (brought ++ tail) asks first.front first.is
+      let split : owed_at chain (walk chain rs r.stamp (there.before ++ more) on.stage there.prefix there.rest) ≡ there.before ++ (waiting ++ (ask ∷ (brought ++ tail))) =
+      ap (λ b. owed_at chain (walk chain rs r.stamp b on.stage there.prefix there.rest)) (sym (append-nil (there.before ++ more)))
+      ∙ (walk_behind chain (there.before ++ more) rs r.stamp [] on.stage there.prefix there.rest
+      ∙ (append_assoc there.before more tail ∙ ap (λ l. there.before ++ l) (append_assoc waiting (ask ∷ brought) tail))) in
+      let searched = behind_quiet there.before (waiting ++ (ask ∷ (brought ++ tail))) before behind _ flow (searched_none last [] s f es tt) (sym due ∙ split) in
+      let owed = searched.middle in
+      let first = behind_quiet waiting (ask ∷ (brought ++ tail)) owed behind _ flow (so_far_none there.stage.stage (sight_over there.stage there.prefix)) searched.is in
+      by_asked here before behind owed searched.front ask first.middle (brought ++ tail) asks first.front first.is
       (λ rest front left.
       let second = behind_quiet brought tail rest behind _ flow none_asked left in
       let further = begins rs r.stamp on.stage there.prefix there.rest second.middle behind (sym second.is) in
@@ -355,7 +379,7 @@ module _ (terms : Terms) (index : ℕ) (flow : Flow) where
         at = further.at;
         awaits = further.awaits;
         flow = further.flow;
-        comes = subst (ComesBy terms here further.there) (sym (more_begins before waiting brought second.middle there.before ask rest front second.front search.none))
+        comes = subst (ComesBy terms here further.there) (sym (more_begins before waiting brought second.middle there.before ask rest owed searched.front front second.front))
             (goes_on here (behind_reply terms here r rs) further.there (due_by_reply terms here ask r) second.middle
             (record { ask = ask; asks = asks; reply = r; replies = rs; answers = refl; leads = refl; owes = refl }) further.comes);
       }))

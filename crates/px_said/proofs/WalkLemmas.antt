@@ -5,13 +5,15 @@ use Rattle.px_event.specs.declared.command.Command.{Command}
 use Rattle.px_event.specs.declared.command.Command.TheVariants as commands
 use Rattle.px_event.specs.declared.event.Event.{Event}
 use Rattle.px_event.specs.declared.reply.Reply.{Reply}
-use Rattle.px_event.specs.Chain.{Asks, Chain, Look, Stamped, Stop, owed_at, walk, walk_by}
+use Rattle.px_event.specs.Chain.{Asks, Chain, Look, Stamped, Stop, owed_at, walk, walk_by, NotYet, Reached, Stamp, Timed, at_its_step, reach, reach_by, worked_off}
 use Rattle.px_exchange.specs.declared.terms.Terms.{Terms}
-use Rattle.px_chain.specs.Chain.{http_chain, sequence}
+use Rattle.px_chain.specs.Chain.{http_chain, sequence, is_sequence}
 use Rattle.px_said.specs.ClosedForm.{first_flows, flows_behind}
 use Rattle.px_chain.specs.Sights.{Standing}
-use Rattle.px_said.specs.Walks.{ComesBy, IsOneReplyOn, Walk, behind_reply, due_by_reply, due_from, goes_on, is_there, reached_from}
-use Rattle.px_said.proofs.ClosedWalk.{walk_behind}
+use Rattle.px_said.specs.Walks.{ComesBy, IsOneReplyOn, Walk, behind_reply, due_by_reply, due_from, goes_on, is_there, reached_from, due_by_passing, heard_on, hears, passed_on, passes}
+use Rattle.px_said.proofs.ClosedWalk.{walk_behind, reach_behind, reach_by_behind, walk_by_behind, with_these}
+use Rattle.px_event.proofs.Walk.{walk_on, walk_is}
+use Rattle.px_chain.proofs.ChainLaws.{settles}
 
 -- ---- all flows of what is due
 
@@ -56,7 +58,74 @@ module _ (terms : Terms) where
       ∙ (walk_behind chain owed one.replies one.reply.stamp [] on.stage there.prefix there.rest
       ∙ (ap (λ l. l ++ due_from terms behind) (sym one.owes) ∙ ap (λ w. due ++ due_from terms w) (sym one.leads)))))
 
+  -- where it passes
+  reach_passed : (last : Stamp) (s : Standing) (f : List (Timed Event)) (es : List (Stamped Event)) →
+      let on = chain.pass s f in
+      reach chain last [] s f es ≡ with_these chain on.owed (reach chain last [] on.stage f es)
+  reach_passed last s f [] =
+      let on = chain.pass s f in
+      let settled = (settles sequence (is_sequence refl) terms).at s f in
+      λ i. record { before = (sym (append-nil on.owed) ∙ ap (λ l. on.owed ++ l) (sym settled.owes_nothing)) i; stage = sym settled.stays i; prefix = f; rest = [] }
+  reach_passed last s f (e ∷ es) =
+      let on = chain.pass s f in
+      let again = chain.pass on.stage f in
+      let settled = (settles sequence (is_sequence refl) terms).at s f in
+      let here : Reached Standing Event Command = record { before = on.owed; stage = on.stage; prefix = f; rest = e ∷ es } in
+      let there : Reached Standing Event Command = record { before = []; stage = on.stage; prefix = f; rest = e ∷ es } in
+      let further : Reached Standing Event Command = reach chain last [] on.stage (f ++ worked_off last e ∷ []) es in
+      let first : reach chain last [] s f (e ∷ es) ≡ with_these chain on.owed (reach_by (chain.look on.stage f) further there) =
+      ap (λ b. reach_by (chain.look on.stage f) (reach chain last b on.stage (f ++ worked_off last e ∷ []) es) here) (sym (append-nil on.owed))
+      ∙ reach_by_behind chain on.owed (chain.look on.stage f) _ _ _ _
+      (reach_behind chain on.owed last [] on.stage (f ++ worked_off last e ∷ []) es)
+      (ap (λ b. (let it : Reached Standing Event Command = record { before = b; stage = on.stage; prefix = f; rest = e ∷ es } in it)) (sym (append-nil on.owed))) in
+      let P : List Command → Standing → Reached Standing Event Command = λ owed stage.
+      reach_by (chain.look stage f) (reach chain last owed stage (f ++ worked_off last e ∷ []) es) (record { before = owed; stage = stage; prefix = f; rest = e ∷ es }) in
+      first ∙ ap (with_these chain on.owed) (λ i. P (sym settled.owes_nothing i) (sym settled.stays i))
+
+  -- what is due behind what was owed by a search
+  owed_with : (owed : List Command) (rs : List (Stamped Reply)) (last : Stamp) (there : Reached Standing Event Command) →
+      owed_at chain (walk_on chain rs last (with_these chain owed there)) ≡ owed ++ owed_at chain (walk_on chain rs last there)
+  owed_with owed [] last there = append_assoc owed there.before _
+  owed_with owed (r ∷ rs) last there =
+      let on = chain.turn there.stage there.prefix (at_its_step r) in
+      walk_by_behind chain owed (chain.look there.stage there.prefix) _ _ _ _
+      (λ ask.
+      let more = chain.so_far there.stage there.prefix ++ ask ∷ (chain.behind there.stage there.prefix ++ on.owed) in
+      ap (λ b. owed_at chain (walk chain rs r.stamp b on.stage there.prefix there.rest)) (append_assoc owed there.before more)
+      ∙ walk_behind chain owed rs r.stamp (there.before ++ more) on.stage there.prefix there.rest)
+      (append_assoc owed there.before _)
+
+  by_passing : (here : Walk) → due_from terms here ≡ due_by_passing terms here ++ due_from terms (passed_on terms here)
+  by_passing here =
+      let on = chain.pass here.place here.prefix in
+      ap (owed_at chain) (walk_is chain here.replies here.last [] here.place here.prefix here.coming)
+      ∙ (ap (λ r. owed_at chain (walk_on chain here.replies here.last r)) (reach_passed here.last here.place here.prefix here.coming)
+      ∙ (owed_with on.owed here.replies here.last (reach chain here.last [] on.stage here.prefix here.coming)
+      ∙ ap (λ w. on.owed ++ owed_at chain w) (sym (walk_is chain here.replies here.last [] on.stage here.prefix here.coming))))
+
+  by_hearing : (here : Walk) (event : Stamped Event) (rest : List (Stamped Event)) → here.coming ≡ event ∷ rest → chain.look (passed_on terms here).place here.prefix ≡ NotYet →
+      due_from terms here ≡ due_by_passing terms here ++ due_from terms (heard_on terms here event rest)
+  by_hearing here event rest comes none =
+      let on = chain.pass here.place here.prefix in
+      let longer : List (Timed Event) = here.prefix ++ worked_off here.last event ∷ [] in
+      let stops : Reached Standing Event Command = record { before = [] ++ on.owed; stage = on.stage; prefix = here.prefix; rest = event ∷ rest } in
+      let one : reach chain here.last [] here.place here.prefix (event ∷ rest) ≡ with_these chain on.owed (reach chain here.last [] on.stage longer rest) =
+      ap (λ l. reach_by l (reach chain here.last on.owed on.stage longer rest) stops) none
+      ∙ (ap (λ b. reach chain here.last b on.stage longer rest) (sym (append-nil on.owed))
+      ∙ reach_behind chain on.owed here.last [] on.stage longer rest) in
+      ap (λ es. due_from terms (record here { coming = es })) comes
+      ∙ (ap (owed_at chain) (walk_is chain here.replies here.last [] here.place here.prefix (event ∷ rest))
+      ∙ (ap (λ r. owed_at chain (walk_on chain here.replies here.last r)) one
+      ∙ (owed_with on.owed here.replies here.last (reach chain here.last [] on.stage longer rest)
+      ∙ ap (λ w. on.owed ++ owed_at chain w) (sym (walk_is chain here.replies here.last [] on.stage longer rest)))))
+
   pub due_along : (here there : Walk) (due : List Command) → ComesBy terms here there due → due_from terms here ≡ due ++ due_from terms there
   due_along _ _ _ (is_there here) = refl
+  due_along _ _ _ (passes here there more further) =
+      by_passing here ∙ (ap (λ l. due_by_passing terms here ++ l) (due_along (passed_on terms here) there more further)
+      ∙ sym (append_assoc (due_by_passing terms here) more (due_from terms there)))
+  due_along _ _ _ (hears here there event rest more comes none further) =
+      by_hearing here event rest comes none ∙ (ap (λ l. due_by_passing terms here ++ l) (due_along (heard_on terms here event rest) there more further)
+      ∙ sym (append_assoc (due_by_passing terms here) more (due_from terms there)))
   due_along _ _ _ (goes_on here next there owed more one further) =
       one_reply here next owed one ∙ (ap (λ l. owed ++ l) (due_along next there more further) ∙ sym (append_assoc owed more (due_from terms there)))

@@ -1,5 +1,5 @@
--- What goes on is sent on: what is due for flows whose replies all go on, said over whole lists and without stages, from any place where
--- a request is awaited. The requests of the client's stream stand one behind the other; each is sent to a server of its own, once the
+-- What goes on is sent on: what is due for flows whose replies all go on and stream no body, said over whole lists and without stages, from
+-- any place where a request is awaited. The requests of the client's stream stand one behind the other; each is sent to a server of its own, once the
 -- response before it is whole, and the client gets what came of each. A server that is connected already and that no flow has used (the
 -- parked side) gets the first request, where that goes there. Nothing stands behind a fault, a CONNECT, a response that switches protocols, or
 -- one behind which the connection does not go on.
@@ -39,9 +39,10 @@ use Rattle.px_chain.specs.Streams.{bytes_of, is_closed}
 
 -- ---- replies that go on
 
--- the reply goes on with the flow that was asked, its request and its response as they were
+-- The reply goes on with the flow that was asked, its request and its response as they were, and allows no body to be streamed: so each
+-- is kept until it is whole.
 abbrev pub KeepsFlow : Flow → Reply → Type 0
-KeepsFlow flow (reply.Go given streamed) = (given.request ≡ flow.request) × (given.response ≡ flow.response)
+KeepsFlow flow (reply.Go given streamed) = (given.request ≡ flow.request) × (given.response ≡ flow.response) × (streamed ≡ None)
 KeepsFlow flow _ = ⊥
 
 -- a dial is answered by the connection, or by its refusal

@@ -4,7 +4,7 @@ use Rattle.std.specs.Prelude.{◌≡◌, ℕ, false, List, [], ◌∷◌, ◌++�
 use Rattle.px_event.specs.declared.command.Command.{Command}
 use Rattle.px_event.specs.declared.event.Event.{Event}
 use Rattle.px_event.specs.declared.reply.Reply.{Reply}
-use Rattle.px_event.specs.Chain.{Asks, Reached, Stamp, Stamped, Timed, at_its_step, never, owed_at, reach, walk}
+use Rattle.px_event.specs.Chain.{Asks, NotYet, Reached, Stamp, Stamped, Timed, at_its_step, never, owed_at, reach, walk, worked_off}
 use Rattle.px_event.specs.Layer.{Move}
 use Rattle.px_event.specs.Stands.{events_in, replies_in}
 use Rattle.px_exchange.specs.declared.terms.Terms.{Terms}
@@ -87,9 +87,27 @@ pub record IsOneReplyOn (terms : Terms) (here next : Walk) (due : List Command) 
   pub leads : next ≡ behind_reply terms here reply replies
   pub owes : due ≡ due_by_reply terms here ask reply
 
+-- where its place passes
+abbrev pub passed_on : Terms → Walk → Walk
+passed_on terms here = record here { place = ((http_chain sequence terms).pass here.place here.prefix).stage }
+
+-- and where the next event was worked off there
+abbrev pub heard_on : Terms → Walk → Stamped Event → List (Stamped Event) → Walk
+heard_on terms here event rest =
+    record (passed_on terms here) { prefix = here.prefix ++ worked_off here.last event ∷ []; coming = rest }
+
+-- What is due where it passes: a streamed response that is whole ends its flow so, without a reply.
+abbrev pub due_by_passing : Terms → Walk → List Command
+due_by_passing terms here = ((http_chain sequence terms).pass here.place here.prefix).owed
+
 -- The walk from here comes by there, and by then this was due.
 pub data ComesBy (terms : Terms) : (here there : Walk) → List Command → Type 0 where
   is_there : (here : Walk) → ComesBy terms here here []
+  passes : (here there : Walk) (more : List Command) → ComesBy terms (passed_on terms here) there more →
+      ComesBy terms here there (due_by_passing terms here ++ more)
+  hears : (here there : Walk) (event : Stamped Event) (rest : List (Stamped Event)) (more : List Command) → here.coming ≡ event ∷ rest →
+      (http_chain sequence terms).look (passed_on terms here).place here.prefix ≡ NotYet → ComesBy terms (heard_on terms here event rest) there more →
+      ComesBy terms here there (due_by_passing terms here ++ more)
   goes_on : (here next there : Walk) (owed more : List Command) → IsOneReplyOn terms here next owed → ComesBy terms next there more →
       ComesBy terms here there (owed ++ more)
 

@@ -30,7 +30,7 @@ use Rattle.px_exchange.specs.Places.{terms_of}
 use Rattle.px_exchange.specs.Requests.{judged}
 use Rattle.px_chain.specs.Chain.{Connect, behind, connect_by as connect_judged, connect_in, look, sequence, so_far}
 use Rattle.px_chain.specs.Sights.{IsWithin, Sight, Standing, UsedBytes, request_in, sight_over, used_with}
-use Rattle.px_chain.specs.Stages.{At, busy, connection, given_body, given_head, idle, next, request_body, response_body, response_head, upgraded}
+use Rattle.px_chain.specs.Stages.{At, busy, coming_down, connection, given_body, given_head, idle, next, request_body, response_body, response_head, upgraded}
 use Rattle.px_chain.specs.Stages as stages
 use Rattle.px_chain.specs.Streams.{Since, bytes_of, client_closed, now_over}
 use Rattle.px_chain.proofs.UsedLaws.{request_within}
@@ -69,7 +69,8 @@ going_on (phase.Ready ready.Idle) is last = let no : false ≡ true = last in cc
 going_on (phase.Ready (ready.RequestBody flow given body)) is last = let no : false ≡ true = last in cc
 going_on (phase.Ready (ready.Connection flow)) is last = let no : false ≡ true = last in cc
 going_on (phase.Ready (ready.ResponseHead flow server)) is last = let no : false ≡ true = last in cc
-going_on (phase.Ready (ready.ResponseBody flow server body)) is last = let no : false ≡ true = last in cc
+going_on (phase.Ready (ready.ResponseBody flow server most body held)) is last = let no : false ≡ true = last in cc
+going_on (phase.Ready (ready.ComingDown flow server sent)) is last = let no : false ≡ true = last in cc
 going_on (phase.Ready (ready.GivenHead flow)) is last = let no : false ≡ true = last in cc
 going_on (phase.Ready (ready.GivenBody flow)) is last = let no : false ≡ true = last in cc
 
@@ -83,7 +84,8 @@ last_when (phase.Ready ready.Idle) ends = absurd (ends refl)
 last_when (phase.Ready (ready.RequestBody flow given body)) ends = absurd (ends refl)
 last_when (phase.Ready (ready.Connection flow)) ends = absurd (ends refl)
 last_when (phase.Ready (ready.ResponseHead flow server)) ends = absurd (ends refl)
-last_when (phase.Ready (ready.ResponseBody flow server body)) ends = absurd (ends refl)
+last_when (phase.Ready (ready.ResponseBody flow server most body held)) ends = absurd (ends refl)
+last_when (phase.Ready (ready.ComingDown flow server sent)) ends = absurd (ends refl)
 last_when (phase.Ready (ready.GivenHead flow)) ends = absurd (ends refl)
 last_when (phase.Ready (ready.GivenBody flow)) ends = absurd (ends refl)
 
@@ -106,7 +108,8 @@ ends_as terms standing (idle at) seen requests side found last same is = idle_as
 ends_as terms standing (busy at flow (request_body given)) seen requests side found last same is = by_end refl last same is
 ends_as terms standing (busy at flow connection) seen requests side found last same is = by_end refl last same is
 ends_as terms standing (busy at flow (response_head server how)) seen requests side found last same is = by_end refl last same is
-ends_as terms standing (busy at flow (response_body server how)) seen requests side found last same is = by_end refl last same is
+ends_as terms standing (busy at flow (response_body server how most)) seen requests side found last same is = by_end refl last same is
+ends_as terms standing (busy at flow (coming_down server how)) seen requests side found last same is = by_end refl last same is
 ends_as terms standing (busy at flow (upgraded server)) seen requests side found last same is = by_upgrade at flow server refl last same is
 ends_as terms standing (busy at flow given_head) seen requests side found last same is = by_end refl last same is
 ends_as terms standing (busy at flow given_body) seen requests side found last same is = by_end refl last same is
@@ -460,7 +463,8 @@ upgraded_flow (phase.Ready ready.Idle) is none = let no : outcomes.Going ≡ out
 upgraded_flow (phase.Ready (ready.RequestBody flow given body)) is none = let no : outcomes.Going ≡ outcomes.Upgraded = is in cc
 upgraded_flow (phase.Ready (ready.Connection flow)) is none = let no : outcomes.Going ≡ outcomes.Upgraded = is in cc
 upgraded_flow (phase.Ready (ready.ResponseHead flow server)) is none = let no : outcomes.Going ≡ outcomes.Upgraded = is in cc
-upgraded_flow (phase.Ready (ready.ResponseBody flow server body)) is none = let no : outcomes.Going ≡ outcomes.Upgraded = is in cc
+upgraded_flow (phase.Ready (ready.ResponseBody flow server most body held)) is none = let no : outcomes.Going ≡ outcomes.Upgraded = is in cc
+upgraded_flow (phase.Ready (ready.ComingDown flow server sent)) is none = let no : outcomes.Going ≡ outcomes.Upgraded = is in cc
 upgraded_flow (phase.Ready (ready.GivenHead flow)) is none = let no : outcomes.Going ≡ outcomes.Upgraded = is in cc
 upgraded_flow (phase.Ready (ready.GivenBody flow)) is none = let no : outcomes.Going ≡ outcomes.Upgraded = is in cc
 

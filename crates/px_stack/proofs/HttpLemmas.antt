@@ -25,7 +25,7 @@ use Rattle.px_stack.specs.Chain.{flows_at, stack_chain, turn_flows}
 use Rattle.px_stack.specs.Kept.{left_by, tunnel_left}
 use Rattle.px_stack.specs.Stages.{Stage, Visitor, connecting, http, over, raw, reaching, socket, undecided}
 use Rattle.px_stack.specs.Stands.{InTime, IsChild, IsInFlows, IsSomewhere, Keeps, KeepsBy, ahead_at}
-use Rattle.px_stack.specs.Steps.{Follows, IsPlain, ResumesChild, TakesChild}
+use Rattle.px_stack.specs.Steps.{Follows, IsPlain, ResumesChild, TakesChild, follows_to}
 use Rattle.px_stack.proofs.LedLemmas.{plain_turn}
 use Rattle.px_stack.proofs.TimeLemmas.{in_time_more, in_time_passed, in_time_turned}
 
@@ -81,7 +81,7 @@ not_ended (Ends other) conv client boxed stage prefix owed is ends = let no : ch
 -- ---- a side that is parked was connected before the client closed, over one event more and behind a reply
 
 later : (standing : Standing) (prefix : List (Timed Event)) (e : Timed Event) → IsWithin standing prefix → InTime standing prefix →
-    InTime (passed standing (sight_over standing (prefix ++ e ∷ []))) (prefix ++ e ∷ [])
+    InTime (passed sequence standing (sight_over standing (prefix ++ e ∷ []))) (prefix ++ e ∷ [])
 later standing prefix e within in_time =
     in_time_passed standing (prefix ++ e ∷ []) (in_time_more (place_of standing.stage).parked standing.opened prefix e within.opened in_time)
 
@@ -95,14 +95,21 @@ turned_on conv client place standing prefix answer in_time =
 module _ (conv : ℕ) (client : Visitor) (boxed : Box HttpConv) (after : HttpConv) (child : Child) (moment : ℕ) (first second : List Command)
     (follows : Follows client.key moment after child second) where
   -- what the two gave, one behind the other
-  gave_both : (view : View) (so_far all none owed : List Command) → none ≡ [] →
-      seen_of view so_far ++ seen_of view first ≡ seen_of view (none ++ all) → seen_of view all ++ seen_of view second ≡ seen_of view owed →
-      seen_of view so_far ++ seen_of view (first ++ second) ≡ seen_of view (none ++ owed)
-  gave_both view so_far all none owed empty one two =
+  behind_both : (view : View) (passing all last owed : List Command) → seen_of view all ++ seen_of view second ≡ seen_of view (last ++ owed) →
+      seen_of view (passing ++ all) ++ seen_of view second ≡ seen_of view ((passing ++ last) ++ owed)
+  behind_both view passing all last owed two =
+      ap (λ l. l ++ seen_of view second) (seen_append view passing all)
+      ∙ (append_assoc (seen_of view passing) (seen_of view all) (seen_of view second)
+      ∙ (ap (λ l. seen_of view passing ++ l) two
+      ∙ (sym (seen_append view passing (last ++ owed)) ∙ ap (seen_of view) (sym (append_assoc passing last owed)))))
+
+  gave_both : (view : View) (so_far passing all last owed : List Command) →
+      seen_of view so_far ++ seen_of view first ≡ seen_of view (passing ++ all) → seen_of view all ++ seen_of view second ≡ seen_of view (last ++ owed) →
+      seen_of view so_far ++ seen_of view (first ++ second) ≡ seen_of view ((passing ++ last) ++ owed)
+  gave_both view so_far passing all last owed one two =
       ap (λ l. seen_of view so_far ++ l) (seen_append view first second)
       ∙ (sym (append_assoc (seen_of view so_far) (seen_of view first) (seen_of view second))
-      ∙ (ap (λ l. l ++ seen_of view second) (one ∙ ap (λ n. seen_of view (n ++ all)) empty)
-      ∙ (two ∙ ap (λ n. seen_of view (n ++ owed)) (sym empty))))
+      ∙ (ap (λ l. l ++ seen_of view second) one ∙ behind_both view passing all last owed two))
 
   takes_there : (event : Event) (place : Place) (standing : Standing) (prefix : List (Timed Event)) →
       IsWithin standing prefix → InTime standing prefix →
@@ -113,9 +120,11 @@ module _ (conv : ℕ) (client : Visitor) (boxed : Box HttpConv) (after : HttpCon
       let e : Timed Event = record { moment = moment; value = event } in
       let longer : List (Timed Event) = prefix ++ e ∷ [] in
       let on = (flows_at conv client place).pass standing longer in
+      let to : Turn Stage Command = follows_to conv client place on.stage longer in
       let next = follows conv client place on.stage longer refl (sym (now_more standing.since prefix e within.since)) at (later standing prefix e within in_time) in
       onward is next.there
-      (λ view. gave_both view ((flows_at conv client place).so_far standing prefix) (owed_here (flows_at conv client place) on.stage longer) on.owed _ refl (gives view) (next.gives view))
+      (λ view. gave_both view ((flows_at conv client place).so_far standing prefix) on.owed (owed_here (flows_at conv client place) on.stage longer) to.owed
+      (owed_here (stack_chain conv client) to.stage longer) (gives view) (next.gives view))
   takes_there event place standing prefix within in_time goes (past_end owed is at gives) =
       absurd (goes owed is)
 
@@ -145,6 +154,8 @@ module _ (conv : ℕ) (client : Visitor) (boxed : Box HttpConv) (after : HttpCon
       let answer : Timed Reply = record { moment = moment; value = reply } in
       let turned = (flows_at conv client place).turn standing prefix answer in
       let on = (flows_at conv client place).pass turned.stage prefix in
+      let all : List Command = owed_here (flows_at conv client place) on.stage prefix in
+      let to : Turn Stage Command = follows_to conv client place on.stage prefix in
       let next = follows conv client place on.stage prefix refl (sym (now_here moment prefix)) resumes.place (turned_on conv client place standing prefix answer in_time) in
       let P : Turn Stage Command → Type 0 = λ t. IsChild conv client child ((stack_chain conv client).pass t.stage prefix).stage prefix in
       record {
@@ -153,9 +164,9 @@ module _ (conv : ℕ) (client : Visitor) (boxed : Box HttpConv) (after : HttpCon
         place = subst P (sym plain) next.there;
         gives = λ view.
             seen_append view first second
-            ∙ (ap (λ l. l ++ seen_of view second) (resumes.gives view ∙ seen_append view turned.owed (owed_here (flows_at conv client place) on.stage prefix))
-            ∙ (append_assoc (seen_of view turned.owed) (seen_of view (owed_here (flows_at conv client place) on.stage prefix)) (seen_of view second)
-            ∙ (ap (λ l. seen_of view turned.owed ++ l) (next.gives view)
+            ∙ (ap (λ l. l ++ seen_of view second) (resumes.gives view ∙ seen_append view turned.owed (on.owed ++ all))
+            ∙ (append_assoc (seen_of view turned.owed) (seen_of view (on.owed ++ all)) (seen_of view second)
+            ∙ (ap (λ l. seen_of view turned.owed ++ l) (behind_both view on.owed all to.owed (owed_here (stack_chain conv client) to.stage prefix) (next.gives view))
             ∙ (sym (seen_append view turned.owed _)
             ∙ ap (λ t. seen_of view (t.owed ++ owed_over (stack_chain conv client) t.stage prefix)) (sym plain)))));
       }

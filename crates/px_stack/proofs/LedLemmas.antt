@@ -12,7 +12,7 @@ use Rattle.px_exchange.specs.declared.terms.Terms.{Terms}
 use Rattle.px_exchange.specs.Places.{address_of, terms_of}
 use Rattle.px_chain.specs.Chain.{look}
 use Rattle.px_chain.specs.Sights.{Sight, Standing, sight_over}
-use Rattle.px_chain.specs.Stages.{At, busy, connection, given_body, given_head, idle, next, request_body, response_body, response_head, unparked, upgraded}
+use Rattle.px_chain.specs.Stages.{At, busy, coming_down, connection, given_body, given_head, idle, next, request_body, response_body, response_head, unparked, upgraded}
 use Rattle.px_chain.specs.Stages as stages
 use Rattle.px_chain.specs.Streams.{client_closed}
 use Rattle.px_http.specs.declared.conversation.HttpConv.{HttpConv}
@@ -67,7 +67,8 @@ module _ (terms : Terms) (here : At) (requests : State) (side : Option KeptLink)
   none_led used (busy at flow connection) is none =
       absurd (let no : Some (address_of flow.request) ≡ None = sym (ap server_dialled (dialled_phase at flow is)) ∙ none in cc)
   none_led used (busy at flow (response_head side how)) is none = refl
-  none_led used (busy at flow (response_body side how)) is none = refl
+  none_led used (busy at flow (response_body side how most)) is none = refl
+  none_led used (busy at flow (coming_down side how)) is none = refl
   none_led used (busy at flow (upgraded side)) is none = refl
   none_led used (busy at flow given_head) is none = refl
   none_led used (busy at flow given_body) is none = refl

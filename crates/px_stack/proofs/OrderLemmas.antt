@@ -1,10 +1,11 @@
 -- No hook of a flow is asked behind the flow's end, whatever follows a CONNECT.
-use Rattle.std.proofs.Common.{◌≡◌, ℕ, Bool, true, false, List, [], ◌∷◌, ◌++◌, drop, Option, Some, None, refl, ap, sym, ◌∙◌, subst, arith, nat_lt}
-use Rattle.std.specs.Prelude.{⊤, ◌==◌, ◌||◌, ◌≢◌}
+use Rattle.std.proofs.Common.{◌≡◌, inl, inr, ℕ, Bool, true, false, List, [], ◌∷◌, ◌++◌, drop, Option, Some, None, refl, ap, sym, ◌∙◌, subst, arith, nat_lt}
+use Rattle.std.specs.Prelude.{⊤, ◌==◌, ◌||◌, ◌≢◌, ◌⊎◌}
 use Rattle.std.proofs.lemmas.Bool.{eqb-true, ltb-true}
 use Rattle.px_message.specs.declared.address.Address.{Address}
 use Rattle.px_message.specs.declared.fault.Fault.TheVariants.{UpstreamRefused}
 use Rattle.px_message.specs.declared.flow.Flow.{Flow}
+use Rattle.px_event.specs.declared.ask.Ask.TheVariants as asks
 use Rattle.px_event.specs.declared.command.Command.{Command}
 use Rattle.px_event.specs.declared.command.Command.TheVariants as commands
 use Rattle.px_event.specs.declared.reply.Reply.{Reply}
@@ -27,7 +28,7 @@ use Rattle.px_exchange.specs.Endings.{ends_by_fault, refuses, shut_all, shut_cli
 use Rattle.px_exchange.specs.Places.{address_of, dialled_for, terms_of}
 use Rattle.px_chain.specs.Chain.{Connect, behind as behind_of, connect_in, look as look_of, so_far as so_far_of}
 use Rattle.px_chain.specs.Sights.{Sight, Standing, request_in, server_parked, sight_over}
-use Rattle.px_chain.specs.Stages.{At, busy, connection, given_body, given_head, idle, next, request_body, response_body, response_head, unparked, upgraded}
+use Rattle.px_chain.specs.Stages.{At, busy, coming_down, connection, given_body, given_head, idle, next, request_body, response_body, response_head, unparked, upgraded}
 use Rattle.px_chain.specs.Stages as flows
 use Rattle.px_chain.specs.Streams.{Since, client_closed, from_here, now_over}
 use Rattle.px_http.proofs.OrderLemmas.{is_counted as is_counted_there, is_counted_at, is_past, is_past_at, leaves_flows}
@@ -74,6 +75,39 @@ is_behind (reaching goal link since) index = is_behind_goal goal index
 is_behind (undecided tunnel link since) index = nat_lt index tunnel.at.flow
 is_behind (socket ends flow frames) index = is_behind_frames frames flow.id.index index
 is_behind stage index = true
+
+-- ---- one list behind the other
+
+none_both : (index : ℕ) (xs ys : List Command) → AsksNoneOf index xs → AsksNoneOf index ys → AsksNoneOf index (xs ++ ys)
+none_both index [] ys a b = b
+none_both index (commands.Ask (asks.Hook number hook) flow ∷ xs) ys (apart, a) b = (apart, none_both index xs ys a b)
+none_both index (commands.Ask (asks.Dial server) flow ∷ xs) ys a b = none_both index xs ys a b
+none_both index (commands.Send side text ∷ xs) ys a b = none_both index xs ys a b
+none_both index (commands.Close side ∷ xs) ys a b = none_both index xs ys a b
+none_both index (commands.Dial server address inside ∷ xs) ys a b = none_both index xs ys a b
+none_both index (commands.Done flow ∷ xs) ys a b = none_both index xs ys a b
+
+ends_both : (index : ℕ) (xs ys : List Command) → EndsOneOf index (xs ++ ys) → EndsOneOf index xs ⊎ EndsOneOf index ys
+ends_both index [] ys e = inr e
+ends_both index (commands.Done flow ∷ xs) ys (inl is) = inl (inl is)
+ends_both index (commands.Done flow ∷ xs) ys (inr e) = later (ends_both index xs ys e)
+  where
+    later : EndsOneOf index xs ⊎ EndsOneOf index ys → EndsOneOf index (commands.Done flow ∷ xs) ⊎ EndsOneOf index ys
+    later (inl a) = inl (inr a)
+    later (inr b) = inr b
+ends_both index (commands.Send side text ∷ xs) ys e = ends_both index xs ys e
+ends_both index (commands.Close side ∷ xs) ys e = ends_both index xs ys e
+ends_both index (commands.Dial server address inside ∷ xs) ys e = ends_both index xs ys e
+ends_both index (commands.Ask ask flow ∷ xs) ys e = ends_both index xs ys e
+
+ordered_both : (xs ys : List Command) → AsksBeforeEnds xs → AsksBeforeEnds ys → ((index : ℕ) → EndsOneOf index xs → AsksNoneOf index ys) → AsksBeforeEnds (xs ++ ys)
+ordered_both [] ys a b none = b
+ordered_both (commands.Done flow ∷ xs) ys (here, a) b none =
+    (none_both flow.id.index xs ys here (none flow.id.index (inl refl)), ordered_both xs ys a b (λ index e. none index (inr e)))
+ordered_both (commands.Send side text ∷ xs) ys a b none = ordered_both xs ys a b none
+ordered_both (commands.Close side ∷ xs) ys a b none = ordered_both xs ys a b none
+ordered_both (commands.Dial server address inside ∷ xs) ys a b none = ordered_both xs ys a b none
+ordered_both (commands.Ask ask flow ∷ xs) ys a b none = ordered_both xs ys a b none
 
 -- ---- the closes of a tunnel
 
@@ -209,7 +243,8 @@ module _ (conv : ℕ) (client : Visitor) where
   hands_follow place standing (busy at flow (request_body given)) seen is = same_follows place standing
   hands_follow place standing (busy at flow connection) seen is = same_follows place standing
   hands_follow place standing (busy at flow (response_head side how)) seen is = same_follows place standing
-  hands_follow place standing (busy at flow (response_body side how)) seen is = same_follows place standing
+  hands_follow place standing (busy at flow (response_body side how most)) seen is = same_follows place standing
+  hands_follow place standing (busy at flow (coming_down side how)) seen is = same_follows place standing
   hands_follow place standing (busy at flow (upgraded side)) seen is = upgrades_follow (is_websocket flow seen.closed) standing at flow seen.now side _ is
   hands_follow place standing (busy at flow given_head) seen is = same_follows place standing
   hands_follow place standing (busy at flow given_body) seen is = same_follows place standing
@@ -337,24 +372,28 @@ module _ (conv : ℕ) (client : Visitor) where
   begun_leaves (socket ends flow frames) prefix is = socket_passes ends flow frames prefix
   begun_leaves over prefix is = quietly over over (λ index before. before) refl
 
-  -- one behind the other, where the first owes nothing
-  leaves_further : (from to last : Stage) (owed : List Command) → Leaves from [] to → Leaves to owed last → Leaves from owed last
-  leaves_further from to last owed first more = record {
-    ordered = more.ordered;
-    asks_none = λ index before. more.asks_none index (first.keeps index before);
-    ends = more.ends;
+  -- one behind the other
+  leaves_further : (from to last : Stage) (said owed : List Command) → Leaves from said to → Leaves to owed last → Leaves from (said ++ owed) last
+  leaves_further from to last said owed first more = record {
+    ordered = ordered_both said owed first.ordered more.ordered (λ index e. more.asks_none index (first.ends index e));
+    asks_none = λ index before. none_both index said owed (first.asks_none index before) (more.asks_none index (first.keeps index before));
+    ends = λ index e. by index (ends_both index said owed e);
     keeps = λ index before. more.keeps index (first.keeps index before);
     leads = more.leads;
   }
+    where
+      by : (index : ℕ) → EndsOneOf index said ⊎ EndsOneOf index owed → is_behind last index ≡ true
+      by index (inl e) = more.keeps index (first.ends index e)
+      by index (inr e) = more.ends index e
 
   http_passes : (place : Place) (standing : Standing) (prefix : List (Timed Event)) → is_counted_at standing ≡ true →
       Leaves (http place standing) ((stack_chain conv client).pass (http place standing) prefix).owed ((stack_chain conv client).pass (http place standing) prefix).stage
   http_passes place standing prefix is =
       let on = (flows_at conv client place).pass standing prefix in
       let to : Stage = pass_http conv client place on.stage prefix in
-      let first : Leaves (http place standing) [] to =
-      leads_on place standing on.stage [] to (hands_follow place on.stage on.stage.stage (sight_over on.stage prefix) refl) ((flows_leave place).passes standing prefix is) in
-      leaves_further (http place standing) to _ _ first (begun_leaves to prefix first.leads)
+      let first : Leaves (http place standing) on.owed to =
+      leads_on place standing on.stage on.owed to (hands_follow place on.stage on.stage.stage (sight_over on.stage prefix) refl) ((flows_leave place).passes standing prefix is) in
+      leaves_further (http place standing) to _ on.owed _ first (begun_leaves to prefix first.leads)
 
   passes : (stage : Stage) (prefix : List (Timed Event)) → is_counted stage ≡ true →
       Leaves stage ((stack_chain conv client).pass stage prefix).owed ((stack_chain conv client).pass stage prefix).stage
@@ -419,7 +458,8 @@ module _ (conv : ℕ) (client : Visitor) where
   led_is_by used (busy at flow (request_body given)) = tt
   led_is_by used (busy at flow connection) = record { at = at; stands = refl; from_there = refl }
   led_is_by used (busy at flow (response_head side how)) = tt
-  led_is_by used (busy at flow (response_body side how)) = tt
+  led_is_by used (busy at flow (response_body side how most)) = tt
+  led_is_by used (busy at flow (coming_down side how)) = tt
   led_is_by used (busy at flow (upgraded side)) = tt
   led_is_by used (busy at flow given_head) = tt
   led_is_by used (busy at flow given_body) = tt

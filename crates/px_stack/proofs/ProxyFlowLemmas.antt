@@ -29,10 +29,11 @@ use Rattle.px_exchange.specs.Flows.{response_of, with_answer, with_body, with_re
 use Rattle.px_exchange.specs.Places.{is_same_address, server_for}
 use Rattle.px_exchange.specs.Replies.{taken_at_response_body, taken_at_response_head}
 use Rattle.px_exchange.specs.Requests.{judged}
-use Rattle.px_chain.specs.Chain.{behind_flow, dial_leads, finish_by, given_at, goes_on_by, parked_for, pass, pass_body, sequence, side_if, turn, turn_answer, turn_body, turn_head, turn_judged, turn_response, turn_returned, turn_taken_answer, turn_taken_body, turn_taken_given, turn_taken_head, turn_taken_returned, turn_taken_whole}
+use Rattle.px_chain.specs.Chain.{behind_flow, dial_leads, finish_by, given_at, goes_on_by, parked_for, pass, pass_body, pass_came, pass_kept, sequence, side_if, turn, turn_answer, turn_answer_head, turn_body, turn_head, turn_judged, turn_response, turn_returned, turn_taken_answer, turn_taken_body, turn_taken_given, turn_taken_head, turn_taken_returned, turn_taken_whole}
+use Rattle.px_chain.specs.Coming.{Came, allowed_by, came_in, goes_on_behind, streaming, streams_in}
 use Rattle.px_chain.specs.Sights.{Sight, answers_in, request_in, server_in, server_parked}
 use Rattle.px_chain.specs.Silent.{connects}
-use Rattle.px_chain.specs.Stages.{At, Parked, Stage, busy, connection, given_body, given_head, idle, next, over, request_body, response_body, response_head, unparked, upgraded}
+use Rattle.px_chain.specs.Stages.{At, Parked, Sent, Stage, busy, coming_down, connection, given_body, given_head, idle, next, over, request_body, response_body, response_head, unparked, upgraded}
 use Rattle.px_chain.proofs.CountedLemmas.{IsSilent}
 use Rattle.px_chain.proofs.SilentLemmas.{IsBetween, IsBeyond, ServersBelow, beyond_by, dialled, early_silent, fault_silent, parked_at, turn_leads}
 use Rattle.px_stack.proofs.AnswerLemmas.{IsWithoutHead}
@@ -68,7 +69,8 @@ module _ (server : ℕ) where
   abbrev pub FlowApart : Stage → Type 0
   FlowApart (idle at) = ParkedApart at.parked
   FlowApart (busy at flow (request_body given)) = ParkedApart at.parked
-  FlowApart (busy at flow (response_body side how)) = side ≢ server
+  FlowApart (busy at flow (response_body side how most)) = side ≢ server
+  FlowApart (busy at flow (coming_down side how)) = side ≢ server
   FlowApart (busy at flow (upgraded side)) = side ≢ server
   FlowApart (busy at flow given_head) = ParkedApart at.parked
   FlowApart (busy at flow given_body) = ParkedApart at.parked
@@ -107,19 +109,25 @@ module _ (server : ℕ) where
   item_apart terms at (bad_head fault) seen answer apart = tt
   item_apart terms at (bad_body fault head body) seen answer apart = judged_apart terms at head (judged terms.place head) seen answer apart
 
-  taken_answer_apart : (at : At) (flow : Flow) (side : ℕ) (taken : Taken Response) (moment : ℕ) (used : Used) (closed : Bool) → side ≢ server →
-      FlowApart (turn_taken_answer at flow side taken moment used closed).stage
-  taken_answer_apart at flow side (GoesOn response) moment used closed apart = apart
-  taken_answer_apart at flow side (Responds response) moment used closed apart = tt
-  taken_answer_apart at flow side Kills moment used closed apart = tt
+  taken_answer_apart : (at : At) (flow : Flow) (side : ℕ) (most : Option ℕ) (taken : Taken Response) (moment : ℕ) (used : Used) (closed : Bool) → side ≢ server →
+      FlowApart (turn_taken_answer at flow side most taken moment used closed).stage
+  taken_answer_apart at flow side most (GoesOn response) moment used closed apart = apart
+  taken_answer_apart at flow side most (Responds response) moment used closed apart = tt
+  taken_answer_apart at flow side most Kills moment used closed apart = tt
 
-  answer_apart : (at : At) (flow : Flow) (side : ℕ) (item : Item ReadResponse) (seen : Sight) (answer : Timed Reply) → (side ≡ server → IsWithoutHead item) →
-      FlowApart (turn_answer at flow side item seen answer).stage
-  answer_apart at flow side missing seen answer without = tt
-  answer_apart at flow side (part head body) seen answer without = taken_answer_apart at (with_answer flow (response_of head) seen.now) side _ answer.moment _ _ without
-  answer_apart at flow side (complete head body trailers size) seen answer without = taken_answer_apart at (with_answer flow (response_of head) seen.now) side _ answer.moment _ _ without
-  answer_apart at flow side (bad_head fault) seen answer without = tt
-  answer_apart at flow side (bad_body fault head body) seen answer without = taken_answer_apart at (with_answer flow (response_of head) seen.now) side _ answer.moment _ _ without
+  head_answer_apart : (terms : Terms) (at : At) (flow : Flow) (side : ℕ) (head : ReadResponse) (seen : Sight) (answer : Timed Reply) → side ≢ server →
+      FlowApart (turn_answer_head terms at flow side head seen answer).stage
+  head_answer_apart terms at flow side head seen answer apart =
+      taken_answer_apart at (with_answer flow (response_of head) seen.now) side (allowed_by terms.streams answer.value)
+      (taken_at_response_head (response_of head) answer.value) answer.moment (server_in side seen) seen.closed apart
+
+  answer_apart : (terms : Terms) (at : At) (flow : Flow) (side : ℕ) (item : Item ReadResponse) (seen : Sight) (answer : Timed Reply) → (side ≡ server → IsWithoutHead item) →
+      FlowApart (turn_answer terms at flow side item seen answer).stage
+  answer_apart terms at flow side missing seen answer without = tt
+  answer_apart terms at flow side (part head body) seen answer without = head_answer_apart terms at flow side head seen answer without
+  answer_apart terms at flow side (complete head body trailers size) seen answer without = head_answer_apart terms at flow side head seen answer without
+  answer_apart terms at flow side (bad_head fault) seen answer without = tt
+  answer_apart terms at flow side (bad_body fault head body) seen answer without = head_answer_apart terms at flow side head seen answer without
 
   behind_apart : (stays : Bool) (at : At) → ParkedApart at.parked → FlowApart (behind_flow stays at)
   behind_apart true at apart = apart
@@ -246,7 +254,8 @@ module _ (server : ℕ) where
   turn_silent terms (busy at flow (request_body given)) seen answer below apart none = body_silent terms.place at flow (request_in seen) seen answer apart
   turn_silent terms (busy at flow connection) seen answer below apart none = dial_silent terms.place at flow answer.value answer.moment _ none
   turn_silent terms (busy at flow (response_head side how)) seen answer below apart none = led terms (busy at flow (response_head side how)) seen answer below tt
-  turn_silent terms (busy at flow (response_body side how)) seen answer below apart none = led terms (busy at flow (response_body side how)) seen answer below tt
+  turn_silent terms (busy at flow (response_body side how most)) seen answer below apart none = led terms (busy at flow (response_body side how most)) seen answer below tt
+  turn_silent terms (busy at flow (coming_down side how)) seen answer below apart none = refl
   turn_silent terms (busy at flow (upgraded side)) seen answer below apart none = refl
   turn_silent terms (busy at flow given_head) seen answer below apart none = led terms (busy at flow given_head) seen answer below tt
   turn_silent terms (busy at flow given_body) seen answer below apart none = led terms (busy at flow given_body) seen answer below tt
@@ -257,9 +266,10 @@ module _ (server : ℕ) where
   turn_apart terms (idle at) seen answer apart sees = item_apart terms at (request_in seen) seen answer apart
   turn_apart terms (busy at flow (request_body given)) seen answer apart sees = body_apart terms.place at flow (request_in seen) seen answer apart
   turn_apart terms (busy at flow connection) seen answer apart sees = dial_apart terms.place at flow answer.value
-  turn_apart terms (busy at flow (response_head side how)) seen answer apart sees = answer_apart at flow side (answers_in flow.request seen).final seen answer sees
-  turn_apart terms (busy at flow (response_body side how)) seen answer apart sees =
+  turn_apart terms (busy at flow (response_head side how)) seen answer apart sees = answer_apart terms at flow side (answers_in flow.request seen).final seen answer sees
+  turn_apart terms (busy at flow (response_body side how most)) seen answer apart sees =
       returned_apart at flow side (answers_in flow.request seen).final seen answer apart
+  turn_apart terms (busy at flow (coming_down side how)) seen answer apart sees = tt
   turn_apart terms (busy at flow (upgraded side)) seen answer apart sees = tt
   turn_apart terms (busy at flow given_head) seen answer apart sees =
       let asked : Flow = given_at flow seen.now in
@@ -289,12 +299,22 @@ module _ (server : ℕ) where
   passed_apart at flow (Some response) (bad_head fault) now apart = apart
   passed_apart at flow (Some response) (bad_body fault head body) now apart = apart
 
-  pub pass_apart : (stage : Stage) (seen : Sight) → FlowApart stage → FlowApart (pass stage seen)
+  came_apart : (at : At) (flow : Flow) (side : ℕ) (how : Sent) (seen : Sight) (came : Option Came) → side ≢ server → FlowApart (pass_came at flow side how seen came).stage
+  came_apart at flow side how seen None apart = apart
+  came_apart at flow side how seen (Some came) apart = behind_apart (goes_on_behind at.flow flow.request came) (unparked at) tt
+
+  kept_apart : (streams : Bool) (at : At) (flow : Flow) (side : ℕ) (how : Sent) (most : Option ℕ) (seen : Sight) → side ≢ server →
+      FlowApart (pass_kept streams at flow side how most seen).stage
+  kept_apart true at flow side how most seen apart = came_apart at (streaming flow) side how seen (came_in (streaming flow) seen) apart
+  kept_apart false at flow side how most seen apart = apart
+
+  pub pass_apart : (stage : Stage) (seen : Sight) → FlowApart stage → FlowApart (pass stage seen).stage
   pass_apart (idle at) seen apart = apart
   pass_apart (busy at flow (request_body given)) seen apart = passed_apart at flow given (request_in seen) seen.now apart
   pass_apart (busy at flow connection) seen apart = tt
   pass_apart (busy at flow (response_head side how)) seen apart = tt
-  pass_apart (busy at flow (response_body side how)) seen apart = apart
+  pass_apart (busy at flow (response_body side how most)) seen apart = kept_apart (streams_in flow most seen) at flow side how most seen apart
+  pass_apart (busy at flow (coming_down side how)) seen apart = came_apart at flow side how seen (came_in flow seen) apart
   pass_apart (busy at flow (upgraded side)) seen apart = apart
   pass_apart (busy at flow given_head) seen apart = apart
   pass_apart (busy at flow given_body) seen apart = apart
@@ -327,32 +347,50 @@ module _ (server : ℕ) where
     turn_untold terms (next at) seen answer below untold = untold
     turn_untold terms over seen answer below untold = tt
 
+    sequence_untold : (to : Stage) → FlowUntold text to → FlowUntold text (sequence to)
+    sequence_untold (idle at) is = is
+    sequence_untold (busy at flow doing) is = is
+    sequence_untold (next at) is = is
+    sequence_untold over is = tt
+
     pub onward_untold : (terms : Terms) (stage : Stage) (seen : Sight) (answer : Timed Reply) → ServersBelow stage → FlowUntold text stage →
         FlowUntold text (sequence (turn terms stage seen answer).stage)
-    onward_untold terms stage seen answer below untold = by (turn terms stage seen answer).stage (turn_untold terms stage seen answer below untold)
-      where
-        by : (to : Stage) → FlowUntold text to → FlowUntold text (sequence to)
-        by (idle at) is = is
-        by (busy at flow doing) is = is
-        by (next at) is = is
-        by over is = tt
+    onward_untold terms stage seen answer below untold = sequence_untold (turn terms stage seen answer).stage (turn_untold terms stage seen answer below untold)
 
-    passed_untold : (at : At) (flow : Flow) (given : Option Response) (item : Item ReadRequest) (now : ℕ) → Untold text at.dials → FlowUntold text (pass_body at flow given item now)
-    passed_untold at flow None item now untold = untold
-    passed_untold at flow (Some response) missing now untold = untold
-    passed_untold at flow (Some response) (part head body) now untold = untold
-    passed_untold at flow (Some response) (complete head body trailers used) now untold = untold
-    passed_untold at flow (Some response) (bad_head fault) now untold = untold
-    passed_untold at flow (Some response) (bad_body fault head body) now untold = untold
+    body_untold : (at : At) (flow : Flow) (given : Option Response) (item : Item ReadRequest) (now : ℕ) → Untold text at.dials → FlowUntold text (pass_body at flow given item now)
+    body_untold at flow None item now untold = untold
+    body_untold at flow (Some response) missing now untold = untold
+    body_untold at flow (Some response) (part head body) now untold = untold
+    body_untold at flow (Some response) (complete head body trailers used) now untold = untold
+    body_untold at flow (Some response) (bad_head fault) now untold = untold
+    body_untold at flow (Some response) (bad_body fault head body) now untold = untold
 
-    pub pass_untold : (stage : Stage) (seen : Sight) → FlowUntold text stage → FlowUntold text (pass stage seen)
+    behind_untold : (stays : Bool) (at : At) → Untold text at.dials → FlowUntold text (behind_flow stays (unparked at))
+    behind_untold true at untold = untold
+    behind_untold false at untold = tt
+
+    came_untold : (at : At) (flow : Flow) (side : ℕ) (how : Sent) (seen : Sight) (came : Option Came) → Untold text at.dials → FlowUntold text (pass_came at flow side how seen came).stage
+    came_untold at flow side how seen None untold = untold
+    came_untold at flow side how seen (Some came) untold = behind_untold (goes_on_behind at.flow flow.request came) at untold
+
+    kept_untold : (streams : Bool) (at : At) (flow : Flow) (side : ℕ) (how : Sent) (most : Option ℕ) (seen : Sight) → Untold text at.dials →
+        FlowUntold text (pass_kept streams at flow side how most seen).stage
+    kept_untold true at flow side how most seen untold = came_untold at (streaming flow) side how seen (came_in (streaming flow) seen) untold
+    kept_untold false at flow side how most seen untold = untold
+
+    pass_untold : (stage : Stage) (seen : Sight) → FlowUntold text stage → FlowUntold text (pass stage seen).stage
     pass_untold (idle at) seen untold = untold
-    pass_untold (busy at flow (request_body given)) seen untold = passed_untold at flow given (request_in seen) seen.now untold
+    pass_untold (busy at flow (request_body given)) seen untold = body_untold at flow given (request_in seen) seen.now untold
     pass_untold (busy at flow connection) seen untold = untold
     pass_untold (busy at flow (response_head side how)) seen untold = untold
-    pass_untold (busy at flow (response_body side how)) seen untold = untold
+    pass_untold (busy at flow (response_body side how most)) seen untold = kept_untold (streams_in flow most seen) at flow side how most seen untold
+    pass_untold (busy at flow (coming_down side how)) seen untold = came_untold at flow side how seen (came_in flow seen) untold
     pass_untold (busy at flow (upgraded side)) seen untold = untold
     pass_untold (busy at flow given_head) seen untold = untold
     pass_untold (busy at flow given_body) seen untold = untold
     pass_untold (next at) seen untold = untold
     pass_untold over seen untold = tt
+
+    -- and the next flow begins there, where one is done
+    pub passed_untold : (stage : Stage) (seen : Sight) → FlowUntold text stage → FlowUntold text (sequence (pass stage seen).stage)
+    passed_untold stage seen untold = sequence_untold (pass stage seen).stage (pass_untold stage seen untold)

@@ -32,12 +32,12 @@ use Rattle.px_exchange.specs.Requests.{is_head}
 use Rattle.px_exchange.specs.Texts.{connected_text, onward_text}
 use Rattle.px_chain.specs.Chain.{Connect, connect_in, dial_leads, pass as pass_of, reached, sequence, stands, turn as turn_of}
 use Rattle.px_chain.specs.Sights.{Sight, Standing, bytes_over, request_in, sight_over}
-use Rattle.px_chain.specs.Stages.{At, all_sent, busy, connection, given_body, given_head, idle, next, request_body, response_body, response_head, side_of, unparked, upgraded}
+use Rattle.px_chain.specs.Stages.{At, all_sent, busy, coming_down, connection, given_body, given_head, idle, next, request_body, response_body, response_head, side_of, unparked, upgraded}
 use Rattle.px_chain.specs.Stages as flows
 use Rattle.px_event.specs.Sides.{piece_of}
 use Rattle.px_chain.specs.Streams.{Since, bytes_of, client_closed, from_here, now_over}
 use Rattle.px_chain.proofs.CountedLemmas.{IsSilent, silent_both, silent_found}
-use Rattle.px_chain.proofs.SilentLemmas.{AreBelow, behind_silent, fault_silent, looks_silent, so_far_silent}
+use Rattle.px_chain.proofs.SilentLemmas.{AreBelow, behind_silent, fault_silent, looks_silent, pass_silent, so_far_silent}
 use Rattle.px_tunnel.specs.Upstream.{Granting, awaited, connect_text, granted, refused}
 use Rattle.px_relay.specs.Stages.{Stage as Frames}
 use Rattle.px_stack.specs.Chain.{answer_of, asks_proxy, begins, begun, closed_before, closed_of, closes_all, finished_flow, flows_at, follows, goes_by, hands_by, has_answered, is_empty, is_shut, led_by, opening_text, or_stays, pass_http, pass_reached, pass_socket, proxy_at, socket_sight, socket_terms, socket_turn, stack_chain, text_behind, text_down, text_of, text_up, tunnel_for, tunnel_found, turn_connected, turn_dial, turn_flows, turn_http, upgrades, used_proxy, way_by, way_to}
@@ -49,7 +49,7 @@ use Rattle.px_stack.specs.Proxies.{DecidesNothing, HasNotAnswered, IsOneRequest,
 use Rattle.px_stack.specs.Sockets.{is_websocket}
 use Rattle.px_stack.specs.Stages.{Dialling, Ends as TunnelEnds, Goal, Link, Stage, Tunnel, Visitor, a_flow, a_tunnel, connecting, http, over, raw, reaching, socket, undecided}
 use Rattle.px_stack.proofs.AnswerLemmas.{answers_without, bytes_decide, grants_not, nothing_before, nothing_within, said_in, said_more, text_decides}
-use Rattle.px_stack.proofs.ProxyFlowLemmas.{ConnectsNone, FlowApart, FlowUntold, SeesNothing, Untold, onward_untold, pass_apart, pass_untold, send_silent, sequence_apart, turn_apart, turn_silent}
+use Rattle.px_stack.proofs.ProxyFlowLemmas.{ConnectsNone, FlowApart, FlowUntold, SeesNothing, Untold, onward_untold, pass_apart, passed_untold, send_silent, sequence_apart, turn_apart, turn_silent}
 use Rattle.px_stack.proofs.SilentLemmas.{AllBelow, client_silent, finished_silent, closes_silent, found_silent, frames_silent, said_silent, stack_counts}
 
 module _ (server : ℕ) where
@@ -125,6 +125,15 @@ module _ (server : ℕ) where
       let P : List ℕ → Type 0 = λ l. Stays l stage in
       record { sent = subst IsOneRequest same one; stays = subst P same stays }
 
+  -- or nothing before what goes on
+  goes_behind : (text : List ℕ) (first : List Command) (turned : Turn Stage Command) → IsSilent server first → Goes text turned →
+      Goes text (record { owed = first ++ turned.owed; stage = turned.stage })
+  goes_behind text first turned silent goes =
+      let same : text ++ sent_in turned.owed ≡ text ++ sent_in (first ++ turned.owed) =
+      sym (ap (λ l. text ++ l) (sent_both first turned.owed ∙ ap (λ l. l ++ sent_in turned.owed) silent)) in
+      let P : List ℕ → Type 0 = λ l. Stays l turned.stage in
+      record { sent = subst IsOneRequest same goes.sent; stays = subst P same goes.stays }
+
   -- ---- a request that is sent to a server that was dialled
 
   record Sends (text : List ℕ) (owed : List Command) (dials : ℕ) : Type 0 where
@@ -175,7 +184,8 @@ module _ (server : ℕ) where
     hands_stay place standing (busy at flow (request_body given)) seen is apart untold = is
     hands_stay place standing (busy at flow connection) seen is apart untold = is
     hands_stay place standing (busy at flow (response_head side how)) seen is apart untold = is
-    hands_stay place standing (busy at flow (response_body side how)) seen is apart untold = is
+    hands_stay place standing (busy at flow (response_body side how most)) seen is apart untold = is
+    hands_stay place standing (busy at flow (coming_down side how)) seen is apart untold = is
     hands_stay place standing (busy at flow (upgraded side)) seen is apart untold = upgrades_stay (is_websocket flow seen.closed) flow seen.now _ apart
     hands_stay place standing (busy at flow given_head) seen is apart untold = is
     hands_stay place standing (busy at flow given_body) seen is apart untold = is
@@ -205,10 +215,12 @@ module _ (server : ℕ) where
     http_passes place standing prefix is =
         let on = (flows_at conv client place).pass standing prefix in
         let seen : Sight = sight_over standing prefix in
-        let apart : FlowApart server (pass_of standing.stage seen) = pass_apart server standing.stage seen is.apart.1 in
-        let untold : FlowUntold server text (pass_of standing.stage seen) = pass_untold server text standing.stage seen is.untold in
+        let to : flows.Stage = (pass_of standing.stage seen).stage in
+        let apart : FlowApart server (sequence to) = sequence_apart server to (pass_apart server standing.stage seen is.apart.1) in
+        let untold : FlowUntold server text (sequence to) = passed_untold server text standing.stage seen is.untold in
         let there : Stays text (http place on.stage) = record { apart = (is.apart.0, apart); untold = untold } in
-        begun_goes (pass_http conv client place on.stage prefix) prefix (hands_stay place on.stage on.stage.stage (sight_over on.stage prefix) there apart untold)
+        goes_behind text on.owed _ (pass_silent server standing.stage seen)
+        (begun_goes (pass_http conv client place on.stage prefix) prefix (hands_stay place on.stage on.stage.stage (sight_over on.stage prefix) there apart untold))
 
     -- what follows a CONNECT
     follows_stay : (d : Decision) (tunnel : Tunnel) (link : Link) (since : Since) → Stays text (undecided tunnel link since) → Stays text (follows d tunnel link since)
@@ -340,7 +352,8 @@ module _ (server : ℕ) where
         let Q : Option ℕ → Type 0 = λ s. DecidesNothing (bytes_over s standing.opened prefix) in
         let here : DecidesNothing (bytes_over (side_of standing.stage) standing.opened prefix) = subst Q (sym (ap side_of is)) heard in
         answers_without (is_head flow.request.method) seen.shut seen.server (nothing_within standing.used.server (bytes_over (side_of standing.stage) standing.opened prefix) here)
-    sees_nothing standing prefix (busy at flow (response_body side how)) none is = tt
+    sees_nothing standing prefix (busy at flow (response_body side how most)) none is = tt
+    sees_nothing standing prefix (busy at flow (coming_down side how)) none is = tt
     sees_nothing standing prefix (busy at flow (upgraded side)) none is = tt
     sees_nothing standing prefix (busy at flow given_head) none is = tt
     sees_nothing standing prefix (busy at flow given_body) none is = tt
@@ -407,7 +420,8 @@ module _ (server : ℕ) where
       upstream_goes proxy (idle at) value is same stays = flows_go (places.Upstream proxy) standing prefix answer none below (none_by standing answer (idle at) value is same tt) stays
       upstream_goes proxy (busy at flow (request_body given)) value is same stays = flows_go (places.Upstream proxy) standing prefix answer none below (none_by standing answer (busy at flow (request_body given)) value is same tt) stays
       upstream_goes proxy (busy at flow (response_head side how)) value is same stays = flows_go (places.Upstream proxy) standing prefix answer none below (none_by standing answer (busy at flow (response_head side how)) value is same tt) stays
-      upstream_goes proxy (busy at flow (response_body side how)) value is same stays = flows_go (places.Upstream proxy) standing prefix answer none below (none_by standing answer (busy at flow (response_body side how)) value is same tt) stays
+      upstream_goes proxy (busy at flow (response_body side how most)) value is same stays = flows_go (places.Upstream proxy) standing prefix answer none below (none_by standing answer (busy at flow (response_body side how most)) value is same tt) stays
+      upstream_goes proxy (busy at flow (coming_down side how)) value is same stays = flows_go (places.Upstream proxy) standing prefix answer none below (none_by standing answer (busy at flow (coming_down side how)) value is same tt) stays
       upstream_goes proxy (busy at flow (upgraded side)) value is same stays = flows_go (places.Upstream proxy) standing prefix answer none below (none_by standing answer (busy at flow (upgraded side)) value is same tt) stays
       upstream_goes proxy (busy at flow given_head) value is same stays = flows_go (places.Upstream proxy) standing prefix answer none below (none_by standing answer (busy at flow given_head) value is same tt) stays
       upstream_goes proxy (busy at flow given_body) value is same stays = flows_go (places.Upstream proxy) standing prefix answer none below (none_by standing answer (busy at flow given_body) value is same tt) stays
@@ -434,7 +448,8 @@ module _ (server : ℕ) where
       inside_goes place (idle at) value is same stays = flows_go place standing prefix answer none below (none_by standing answer (idle at) value is same tt) stays
       inside_goes place (busy at flow (request_body given)) value is same stays = flows_go place standing prefix answer none below (none_by standing answer (busy at flow (request_body given)) value is same tt) stays
       inside_goes place (busy at flow (response_head side how)) value is same stays = flows_go place standing prefix answer none below (none_by standing answer (busy at flow (response_head side how)) value is same tt) stays
-      inside_goes place (busy at flow (response_body side how)) value is same stays = flows_go place standing prefix answer none below (none_by standing answer (busy at flow (response_body side how)) value is same tt) stays
+      inside_goes place (busy at flow (response_body side how most)) value is same stays = flows_go place standing prefix answer none below (none_by standing answer (busy at flow (response_body side how most)) value is same tt) stays
+      inside_goes place (busy at flow (coming_down side how)) value is same stays = flows_go place standing prefix answer none below (none_by standing answer (busy at flow (coming_down side how)) value is same tt) stays
       inside_goes place (busy at flow (upgraded side)) value is same stays = flows_go place standing prefix answer none below (none_by standing answer (busy at flow (upgraded side)) value is same tt) stays
       inside_goes place (busy at flow given_head) value is same stays = flows_go place standing prefix answer none below (none_by standing answer (busy at flow given_head) value is same tt) stays
       inside_goes place (busy at flow given_body) value is same stays = flows_go place standing prefix answer none below (none_by standing answer (busy at flow given_body) value is same tt) stays

@@ -24,7 +24,7 @@ use Rattle.px_exchange.specs.Places.{address_of, terms_of}
 use Rattle.px_chain.specs.Chain.{Connect, connect_in, is_sequence, sequence}
 use Rattle.px_chain.specs.Sights.{Sight, Standing, request_in, sight_over}
 use Rattle.px_chain.specs.Silent.{NoAnswer, connects}
-use Rattle.px_chain.specs.Stages.{At, busy, connection, given_body, given_head, idle, next, request_body, response_body, response_head, upgraded}
+use Rattle.px_chain.specs.Stages.{At, busy, coming_down, connection, given_body, given_head, idle, next, request_body, response_body, response_head, upgraded}
 use Rattle.px_chain.specs.Stages as flows
 use Rattle.px_chain.specs.Streams.{Since, client_closed, from_here, now_over}
 use Rattle.px_chain.proofs.CountedLemmas.{Counts, CountsServers, IsSilent, counted_silent, silent_both}
@@ -152,7 +152,8 @@ module _ (conv : ℕ) (client : Visitor) where
   hands_few place standing (busy at flow (request_body given)) seen is below here = (omega arith, below)
   hands_few place standing (busy at flow connection) seen is below here = (omega arith, below)
   hands_few place standing (busy at flow (response_head side how)) seen is below here = (omega arith, below)
-  hands_few place standing (busy at flow (response_body side how)) seen is below here = (omega arith, below)
+  hands_few place standing (busy at flow (response_body side how most)) seen is below here = (omega arith, below)
+  hands_few place standing (busy at flow (coming_down side how)) seen is below here = (omega arith, below)
   hands_few place standing (busy at flow (upgraded side)) seen is below here =
       let same : dialled standing.stage ≡ at.dials = ap dialled is in
       let less : side < at.dials = here in
@@ -332,7 +333,8 @@ module _ (conv : ℕ) (client : Visitor) where
   led_is_by used (busy at flow (request_body given)) = tt
   led_is_by used (busy at flow connection) = refl
   led_is_by used (busy at flow (response_head side how)) = tt
-  led_is_by used (busy at flow (response_body side how)) = tt
+  led_is_by used (busy at flow (response_body side how most)) = tt
+  led_is_by used (busy at flow (coming_down side how)) = tt
   led_is_by used (busy at flow (upgraded side)) = tt
   led_is_by used (busy at flow given_head) = tt
   led_is_by used (busy at flow given_body) = tt

@@ -26,9 +26,10 @@ use Rattle.px_exchange.specs.Endings.{connection_goes_on}
 use Rattle.px_exchange.specs.Flows.{response_of, with_answer, with_body, with_returned}
 use Rattle.px_exchange.specs.Replies.{taken_at_request_body, taken_at_request_head, taken_at_response_body, taken_at_response_head}
 use Rattle.px_exchange.specs.Requests.{expects, flow_of, judged}
-use Rattle.px_chain.specs.Chain.{behind_flow, dial_leads, finish_by, given_at, goes_on_by, opened_by, parked_for, pass, pass_body, passed, sequence, stands, turn, turn_answer, turn_answer_head, turn_body, turn_given_head, turn_head, turn_judged, turn_response, turn_returned, turn_taken_answer, turn_taken_body, turn_taken_given, turn_taken_head, turn_taken_returned, turn_taken_whole, turn_whole_answer}
+use Rattle.px_chain.specs.Chain.{behind_flow, dial_leads, finish_by, given_at, goes_on_by, opened_by, parked_for, pass, pass_body, pass_came, pass_kept, passed, sequence, stands, turn, turn_answer, turn_answer_head, turn_body, turn_given_head, turn_head, turn_judged, turn_response, turn_returned, turn_taken_answer, turn_taken_body, turn_taken_given, turn_taken_head, turn_taken_returned, turn_taken_whole, turn_whole_answer}
+use Rattle.px_chain.specs.Coming.{Came, allowed_by, came_in, goes_on_behind, streaming, streams_in}
 use Rattle.px_chain.specs.Sights.{Sight, Standing, answers_in, dials_at, request_in, server_in, server_parked, sight_over}
-use Rattle.px_chain.specs.Stages.{At, Parked, Stage, busy, connection, given_body, given_head, idle, next, over, place_of, request_body, response_body, response_head, unparked, upgraded}
+use Rattle.px_chain.specs.Stages.{At, Parked, Sent, Stage, busy, coming_down, connection, given_body, given_head, idle, next, over, place_of, request_body, response_body, response_head, unparked, upgraded}
 use Rattle.px_chain.specs.Streams.{client_closed}
 use Rattle.px_chain.proofs.FrontLaws.{closed_more, closed_stays, open_behind}
 use Rattle.px_chain.proofs.SilentLemmas.{IsParkedFrom, none_parked, same_parked}
@@ -63,35 +64,52 @@ in_time_from : (was later : Option Parked) (opened : ℕ) (prefix : List (Timed 
 in_time_from was later opened prefix (same_parked is) in_time = let P : Option Parked → Type 0 = λ p. OpensInTime p opened prefix in subst P (sym is) in_time
 in_time_from was later opened prefix (none_parked is) in_time = let P : Option Parked → Type 0 = λ p. OpensInTime p opened prefix in subst P (sym is) tt
 
--- a flow passes
-body_passes : (at : At) (flow : Flow) (given : Option Response) (item : Item ReadRequest) (now : ℕ) → (place_of (pass_body at flow given item now)).parked ≡ at.parked
-body_passes at flow None item now = refl
-body_passes at flow (Some response) missing now = refl
-body_passes at flow (Some response) (part head body) now = refl
-body_passes at flow (Some response) (complete head body trailers used) now = refl
-body_passes at flow (Some response) (bad_head fault) now = refl
-body_passes at flow (Some response) (bad_body fault head body) now = refl
-
-stage_passes : (stage : Stage) (seen : Sight) → (place_of (pass stage seen)).parked ≡ (place_of stage).parked
-stage_passes (idle at) seen = refl
-stage_passes (busy at flow (request_body given)) seen = body_passes at flow given (request_in seen) seen.now
-stage_passes (busy at flow connection) seen = refl
-stage_passes (busy at flow (response_head server how)) seen = refl
-stage_passes (busy at flow (response_body server how)) seen = refl
-stage_passes (busy at flow (upgraded server)) seen = refl
-stage_passes (busy at flow given_head) seen = refl
-stage_passes (busy at flow given_body) seen = refl
-stage_passes (next at) seen = refl
-stage_passes over seen = refl
-
-pub in_time_passed : (standing : Standing) (prefix : List (Timed Event)) → InTime standing prefix → InTime (passed standing (sight_over standing prefix)) prefix
-in_time_passed standing prefix in_time =
-    in_time_from (place_of standing.stage).parked _ standing.opened prefix (same_parked (stage_passes standing.stage (sight_over standing prefix))) in_time
-
--- ---- a reply leads on
-
+-- what a reply or a passage leads to
 abbrev Parks : Option Parked → Stage → Type 0
 Parks was to = IsParkedFrom was (place_of (sequence to)).parked
+
+-- ---- a flow passes
+
+body_passes : (at : At) (flow : Flow) (given : Option Response) (item : Item ReadRequest) (now : ℕ) → Parks at.parked (pass_body at flow given item now)
+body_passes at flow None item now = same_parked refl
+body_passes at flow (Some response) missing now = same_parked refl
+body_passes at flow (Some response) (part head body) now = same_parked refl
+body_passes at flow (Some response) (complete head body trailers used) now = same_parked refl
+body_passes at flow (Some response) (bad_head fault) now = same_parked refl
+body_passes at flow (Some response) (bad_body fault head body) now = same_parked refl
+
+-- behind its own side a flow leaves none
+none_behind : (was : Option Parked) (stays : Bool) (at : At) → Parks was (behind_flow stays (unparked at))
+none_behind was true at = none_parked refl
+none_behind was false at = none_parked refl
+
+came_passes : (at : At) (flow : Flow) (server : ℕ) (how : Sent) (seen : Sight) (came : Option Came) → Parks at.parked (pass_came at flow server how seen came).stage
+came_passes at flow server how seen None = same_parked refl
+came_passes at flow server how seen (Some came) = none_behind at.parked (goes_on_behind at.flow flow.request came) at
+
+kept_passes : (streams : Bool) (at : At) (flow : Flow) (server : ℕ) (how : Sent) (most : Option ℕ) (seen : Sight) →
+    Parks at.parked (pass_kept streams at flow server how most seen).stage
+kept_passes true at flow server how most seen = came_passes at (streaming flow) server how seen (came_in (streaming flow) seen)
+kept_passes false at flow server how most seen = same_parked refl
+
+stage_passes : (stage : Stage) (seen : Sight) → Parks (place_of stage).parked (pass stage seen).stage
+stage_passes (idle at) seen = same_parked refl
+stage_passes (busy at flow (request_body given)) seen = body_passes at flow given (request_in seen) seen.now
+stage_passes (busy at flow connection) seen = same_parked refl
+stage_passes (busy at flow (response_head server how)) seen = same_parked refl
+stage_passes (busy at flow (response_body server how most)) seen = kept_passes (streams_in flow most seen) at flow server how most seen
+stage_passes (busy at flow (coming_down server how)) seen = came_passes at flow server how seen (came_in flow seen)
+stage_passes (busy at flow (upgraded server)) seen = same_parked refl
+stage_passes (busy at flow given_head) seen = same_parked refl
+stage_passes (busy at flow given_body) seen = same_parked refl
+stage_passes (next at) seen = same_parked refl
+stage_passes over seen = same_parked refl
+
+pub in_time_passed : (standing : Standing) (prefix : List (Timed Event)) → InTime standing prefix → InTime (passed sequence standing (sight_over standing prefix)) prefix
+in_time_passed standing prefix in_time =
+    in_time_from (place_of standing.stage).parked _ standing.opened prefix (stage_passes standing.stage (sight_over standing prefix)) in_time
+
+-- ---- a reply leads on
 
 taken_head_parks : (at : At) (flow : Flow) (expected : Bool) (taken : Taken Request) (moment : ℕ) (seen : Sight) → Parks at.parked (turn_taken_head at flow expected taken moment seen).stage
 taken_head_parks at flow expected (GoesOn request) moment seen = same_parked refl
@@ -129,31 +147,29 @@ body_parks place at flow (complete head body trailers used) seen answer =
 body_parks place at flow (bad_head fault) seen answer = none_parked refl
 body_parks place at flow (bad_body fault head body) seen answer = none_parked refl
 
-taken_answer_parks : (at : At) (flow : Flow) (server : ℕ) (taken : Taken Response) (moment : ℕ) (used : Used) (closed : Bool) →
-    Parks at.parked (turn_taken_answer at flow server taken moment used closed).stage
-taken_answer_parks at flow server (GoesOn response) moment used closed = same_parked refl
-taken_answer_parks at flow server (Responds response) moment used closed = none_parked refl
-taken_answer_parks at flow server Kills moment used closed = none_parked refl
+taken_answer_parks : (at : At) (flow : Flow) (server : ℕ) (most : Option ℕ) (taken : Taken Response) (moment : ℕ) (used : Used) (closed : Bool) →
+    Parks at.parked (turn_taken_answer at flow server most taken moment used closed).stage
+taken_answer_parks at flow server most (GoesOn response) moment used closed = same_parked refl
+taken_answer_parks at flow server most (Responds response) moment used closed = none_parked refl
+taken_answer_parks at flow server most Kills moment used closed = none_parked refl
 
-answer_head_parks : (at : At) (flow : Flow) (server : ℕ) (head : ReadResponse) (seen : Sight) (answer : Timed Reply) → Parks at.parked (turn_answer_head at flow server head seen answer).stage
-answer_head_parks at flow server head seen answer =
-    taken_answer_parks at (with_answer flow (response_of head) seen.now) server (taken_at_response_head (response_of head) answer.value) answer.moment (server_in server seen) seen.closed
+answer_head_parks : (terms : Terms) (at : At) (flow : Flow) (server : ℕ) (head : ReadResponse) (seen : Sight) (answer : Timed Reply) →
+    Parks at.parked (turn_answer_head terms at flow server head seen answer).stage
+answer_head_parks terms at flow server head seen answer =
+    taken_answer_parks at (with_answer flow (response_of head) seen.now) server (allowed_by terms.streams answer.value)
+    (taken_at_response_head (response_of head) answer.value) answer.moment (server_in server seen) seen.closed
 
-answer_parks : (at : At) (flow : Flow) (server : ℕ) (item : Item ReadResponse) (seen : Sight) (answer : Timed Reply) → Parks at.parked (turn_answer at flow server item seen answer).stage
-answer_parks at flow server missing seen answer = none_parked refl
-answer_parks at flow server (part head body) seen answer = answer_head_parks at flow server head seen answer
-answer_parks at flow server (complete head body trailers size) seen answer = answer_head_parks at flow server head seen answer
-answer_parks at flow server (bad_head fault) seen answer = none_parked refl
-answer_parks at flow server (bad_body fault head body) seen answer = answer_head_parks at flow server head seen answer
+answer_parks : (terms : Terms) (at : At) (flow : Flow) (server : ℕ) (item : Item ReadResponse) (seen : Sight) (answer : Timed Reply) →
+    Parks at.parked (turn_answer terms at flow server item seen answer).stage
+answer_parks terms at flow server missing seen answer = none_parked refl
+answer_parks terms at flow server (part head body) seen answer = answer_head_parks terms at flow server head seen answer
+answer_parks terms at flow server (complete head body trailers size) seen answer = answer_head_parks terms at flow server head seen answer
+answer_parks terms at flow server (bad_head fault) seen answer = none_parked refl
+answer_parks terms at flow server (bad_body fault head body) seen answer = answer_head_parks terms at flow server head seen answer
 
 behind_parks : (stays : Bool) (at : At) → Parks at.parked (behind_flow stays at)
 behind_parks true at = same_parked refl
 behind_parks false at = none_parked refl
-
--- behind its own side a flow leaves none
-none_behind : (was : Option Parked) (stays : Bool) (at : At) → Parks was (behind_flow stays (unparked at))
-none_behind was true at = none_parked refl
-none_behind was false at = none_parked refl
 
 response_parks : (was : Option Parked) (there : Option Response) (takes : Response → Taken Response) (goes : Taken Response → Turn Stage Command) →
     ((taken : Taken Response) → Parks was (goes taken).stage) → Parks was (turn_response there takes goes).stage
@@ -222,9 +238,10 @@ turned_by terms (busy at flow (request_body given)) seen answer opened come pref
 turned_by terms (busy at flow connection) seen answer opened come prefix in_time =
     let P : Option Parked → Type 0 = λ p. OpensInTime p come prefix in subst P (sym (dial_parks terms.place at flow answer.value)) tt
 turned_by terms (busy at flow (response_head server how)) seen answer opened come prefix in_time =
-    in_time_from at.parked _ opened prefix (answer_parks at flow server (answers_in flow.request seen).final seen answer) in_time
-turned_by terms (busy at flow (response_body server how)) seen answer opened come prefix in_time =
+    in_time_from at.parked _ opened prefix (answer_parks terms at flow server (answers_in flow.request seen).final seen answer) in_time
+turned_by terms (busy at flow (response_body server how most)) seen answer opened come prefix in_time =
     in_time_from at.parked _ opened prefix (returned_parks at flow server (answers_in flow.request seen).final seen answer) in_time
+turned_by terms (busy at flow (coming_down server how)) seen answer opened come prefix in_time = tt
 turned_by terms (busy at flow (upgraded server)) seen answer opened come prefix in_time = tt
 turned_by terms (busy at flow given_head) seen answer opened come prefix in_time =
     in_time_from at.parked _ opened prefix (given_parks at (given_at flow seen.now) answer (server_parked at.parked seen) seen.closed) in_time

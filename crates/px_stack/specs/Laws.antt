@@ -28,9 +28,9 @@ use Rattle.px_exchange.specs.Endings.{shut_server}
 use Rattle.px_exchange.specs.Places.{terms_of}
 use Rattle.px_exchange.specs.Finds.{look_head, look_judged, or_leaves}
 use Rattle.px_exchange.specs.Requests.{judged, judged_goal, judged_length, judged_method}
-use Rattle.px_chain.specs.Chain.{Connect, connect_by, connect_in, look as look_of, so_far as so_far_of, sequence}
+use Rattle.px_chain.specs.Chain.{Connect, connect_by, connect_in, is_sequence, look as look_of, so_far as so_far_of, sequence}
 use Rattle.px_chain.specs.Sights.{Sight, Standing, request_in, server_parked, sight_over}
-use Rattle.px_chain.specs.Stages.{At, busy, connection, given_body, given_head, idle, next, place_of, request_body, response_body, response_head, upgraded}
+use Rattle.px_chain.specs.Stages.{At, busy, coming_down, connection, given_body, given_head, idle, next, place_of, request_body, response_body, response_head, upgraded}
 use Rattle.px_chain.specs.Stages as flows
 use Rattle.px_event.specs.Sides.{piece_of}
 use Rattle.px_chain.specs.Streams.{Since, bytes_of, client_closed, from_here, now_over}
@@ -133,7 +133,8 @@ hands terms standing (idle at) seen to is = idle_hands terms standing.used.clien
 hands terms standing (busy at flow (request_body given)) seen to is = absurd (let no : None ≡ Some to = is in cc)
 hands terms standing (busy at flow connection) seen to is = absurd (let no : None ≡ Some to = is in cc)
 hands terms standing (busy at flow (response_head side how)) seen to is = absurd (let no : None ≡ Some to = is in cc)
-hands terms standing (busy at flow (response_body side how)) seen to is = absurd (let no : None ≡ Some to = is in cc)
+hands terms standing (busy at flow (response_body side how most)) seen to is = absurd (let no : None ≡ Some to = is in cc)
+hands terms standing (busy at flow (coming_down side how)) seen to is = absurd (let no : None ≡ Some to = is in cc)
 hands terms standing (busy at flow (upgraded server)) seen to is = record {
   is_tunnel = let P : Stage → Type 0 = IsTunnel in subst P (some_same _ to is) (upgrades_tunnel (is_websocket flow seen.closed) flow seen.now _);
   owes = refl;
@@ -221,7 +222,7 @@ module _ (conv : ℕ) (client : Visitor) where
   settled_at : (stage : Stage) (prefix : List (Timed Event)) → IsSettled (stack_chain conv client) ((stack_chain conv client).pass stage prefix).stage prefix
   settled_at (http place standing) prefix =
       let on = (flows_at conv client place).pass standing prefix in
-      let law = flows_settle sequence (terms_of conv client.address place) in
+      let law = flows_settle sequence (is_sequence refl) (terms_of conv client.address place) in
       http_settled place on.stage prefix (hands_over place on.stage prefix) (law.at standing prefix) refl
   settled_at (connecting tunnel) prefix = record { stays = refl; owes_nothing = refl }
   settled_at (reaching goal link since) prefix = reached_settled goal link since prefix (answer_of link prefix) refl
@@ -237,13 +238,6 @@ module _ (conv : ℕ) (client : Visitor) where
 
 joins : {A : Type 0} (xs ys zs : List A) → IsPrefixOf xs ys → IsPrefixOf xs (ys ++ zs)
 joins xs ys zs (rest, is) = (rest ++ zs, ap (λ l. l ++ zs) is ∙ append_assoc xs rest zs)
-
-nothing_begins : {A : Type 0} (xs rest zs : List A) → [] ≡ xs ++ rest → IsPrefixOf xs zs
-nothing_begins [] rest zs is = (zs, refl)
-nothing_begins (x ∷ xs) rest zs is = absurd (let no : [] ≡ x ∷ (xs ++ rest) = is in cc)
-
-of_nothing : {A : Type 0} (xs ys zs : List A) → IsPrefixOf xs ys → ys ≡ [] → IsPrefixOf xs zs
-of_nothing xs ys zs (rest, is) empty = nothing_begins xs rest zs (sym empty ∙ is)
 
 pub drops : (n : ℕ) (xs ys : List ℕ) → IsPrefixOf (drop n xs) (drop n (xs ++ ys))
 drops zero xs ys = (ys, refl)
@@ -264,20 +258,24 @@ module _ (conv : ℕ) (client : Visitor) where
         IsPrefixOf (seen_of view xs) (seen_of view zs)
     begins_on xs ys zs (rest, is) (more, on) = (rest ++ more, on ∙ (ap (λ l. l ++ more) is ∙ append_assoc (seen_of view xs) rest more))
 
-    -- HTTP: what it owes is owed here, unless it hands over, where it owes nothing
+    -- HTTP: what it owes is owed here, unless it hands over, where it owes nothing but what passing owed
     http_grows : (place : Place) (owed : List Command) (before : List Command) (standing : Standing) (prefix : List (Timed Event)) (to : Option Stage) →
-        hands_over place standing prefix ≡ to → before ≡ [] →
+        hands_over place standing prefix ≡ to →
         IsPrefixOf (seen_of view owed) (seen_of view (before ++ owed_here (flows_at conv client place) standing prefix)) →
         (let on = begun conv client (or_stays (http place standing) to) prefix in
         IsPrefixOf (seen_of view owed) (seen_of view ((before ++ on.owed) ++ owed_here (stack_chain conv client) on.stage prefix)))
-    http_grows place owed before standing prefix None is empty begins =
+    http_grows place owed before standing prefix None is begins =
         begins_as (seen_of view owed) _ _ begins (ap (λ b. seen_of view (b ++ owed_here (flows_at conv client place) standing prefix)) (sym (append-nil before)))
-    http_grows place owed before standing prefix (Some to) is empty begins =
+    http_grows place owed before standing prefix (Some to) is begins =
         let over = hands (terms_of conv client.address place) standing standing.stage (sight_over standing prefix) to is in
         let parts : List Command = (flows_at conv client place).behind standing prefix in
-        of_nothing (seen_of view owed) _ _ begins
-        (ap (seen_of view) (ap (λ b. b ++ owed_here (flows_at conv client place) standing prefix) empty
-        ∙ (ap (λ l. l ++ found_with parts ((flows_at conv client place).look standing prefix)) over.owes ∙ ap (found_with parts) over.ends)))
+        let nothing : owed_here (flows_at conv client place) standing prefix ≡ [] =
+        ap (λ l. l ++ found_with parts ((flows_at conv client place).look standing prefix)) over.owes ∙ ap (found_with parts) over.ends in
+        let on = begun conv client to prefix in
+        let rest : List Command = owed_here (stack_chain conv client) on.stage prefix in
+        begins_on owed before ((before ++ on.owed) ++ rest)
+        (begins_as (seen_of view owed) _ _ begins (ap (λ l. seen_of view (before ++ l)) nothing ∙ ap (seen_of view) (append-nil before)))
+        (seen_begins [] before ((before ++ on.owed) ++ rest) (on.owed ++ rest, append_assoc before on.owed rest))
 
     -- a tunnel: the bytes of both sides
     both_grow : (server : ℕ) (up down longer_up longer_down : List ℕ) → IsPrefixOf up longer_up → IsPrefixOf down longer_down →
@@ -330,8 +328,8 @@ module _ (conv : ℕ) (client : Visitor) where
     grows_at (http place standing) prefix event is =
         let longer : List (Timed Event) = prefix ++ event ∷ [] in
         let on = (flows_at conv client place).pass standing longer in
-        let law = flows_grow sequence (terms_of conv client.address place) view in
-        http_grows place _ on.owed on.stage longer (hands_over place on.stage longer) refl refl
+        let law = flows_grow sequence (is_sequence refl) (terms_of conv client.address place) view in
+        http_grows place _ on.owed on.stage longer (hands_over place on.stage longer) refl
         (law.grows standing prefix event is)
     grows_at (connecting tunnel) prefix event is = (_, refl)
     grows_at (reaching goal link since) prefix event is = (_, refl)

@@ -21,7 +21,7 @@ use Rattle.px_exchange.specs.Endings.{shut_all, shut_client, shut_server}
 use Rattle.px_exchange.specs.Places.{terms_of}
 use Rattle.px_chain.specs.Chain.{Connect, connect_in}
 use Rattle.px_chain.specs.Sights.{Sight, Standing, request_in, sight_over}
-use Rattle.px_chain.specs.Stages.{At, busy, connection, given_body, given_head, idle, next, request_body, response_body, response_head, upgraded}
+use Rattle.px_chain.specs.Stages.{At, busy, coming_down, connection, given_body, given_head, idle, next, request_body, response_body, response_head, upgraded}
 use Rattle.px_chain.specs.Stages as flows
 use Rattle.px_chain.specs.Streams.{Since, client_closed, from_here, now_over}
 use Rattle.px_chain.proofs.Quiet.{IsOf}
@@ -113,7 +113,8 @@ module _ (conv : ℕ) where
     hands_is place standing (busy at flow (request_body given)) seen is here = is
     hands_is place standing (busy at flow connection) seen is here = is
     hands_is place standing (busy at flow (response_head side how)) seen is here = is
-    hands_is place standing (busy at flow (response_body side how)) seen is here = is
+    hands_is place standing (busy at flow (response_body side how most)) seen is here = is
+    hands_is place standing (busy at flow (coming_down side how)) seen is here = is
     hands_is place standing (busy at flow (upgraded side)) seen is here = upgrades_is (is_websocket flow seen.closed) flow seen.now _ here refl
     hands_is place standing (busy at flow given_head) seen is here = is
     hands_is place standing (busy at flow given_body) seen is here = is
@@ -234,7 +235,8 @@ module _ (conv : ℕ) where
     led_is_by place used (busy at flow (request_body given)) is = tt
     led_is_by place used (busy at flow connection) is = is
     led_is_by place used (busy at flow (response_head side how)) is = tt
-    led_is_by place used (busy at flow (response_body side how)) is = tt
+    led_is_by place used (busy at flow (response_body side how most)) is = tt
+    led_is_by place used (busy at flow (coming_down side how)) is = tt
     led_is_by place used (busy at flow (upgraded side)) is = tt
     led_is_by place used (busy at flow given_head) is = tt
     led_is_by place used (busy at flow given_body) is = tt

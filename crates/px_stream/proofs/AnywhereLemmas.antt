@@ -1,13 +1,15 @@
 -- A stream that begins where others have been: anew, with what they have left, or with a flow whose request they have read.
 use Rattle.std.proofs.Common.{◌≡◌, ℕ, ◌+◌, ◌<◌, ◌≤◌, Bool, false, List, [], ◌++◌, Option, Some, None, refl, ap, sym, ◌∙◌, subst, arith, option_to_list}
 use Rattle.std.specs.List.{flat_map}
+use Rattle.std.specs.Prelude.{⊤}
 use Rattle.px_message.specs.declared.flow.Flow.{Flow}
 use Rattle.px_message.specs.declared.response.Response.{Response}
 use Rattle.px_event.specs.declared.command.Command.{Command}
 use Rattle.px_event.specs.declared.event.Event.{Event}
 use Rattle.px_event.specs.Chain.{Timed, NotYet, found_with}
+use Rattle.px_event.specs.Laws.{owed_over}
 use Rattle.px_event.specs.Layer.{AsksOnly, asks_in}
-use Rattle.px_event.specs.View.{questions, seen_of}
+use Rattle.px_event.specs.View.{View, questions, seen_of}
 use Rattle.px_event.proofs.Seen.{seen_append}
 use Rattle.px_read.specs.Items.{missing, request_item}
 use Rattle.px_read.specs.Reader.{State, request, Reads, before_all}
@@ -15,10 +17,10 @@ use Rattle.px_exchange.specs.declared.terms.Terms.{Terms}
 use Rattle.px_exchange.specs.declared.ending.Used.{Used}
 use Rattle.px_exchange.specs.Endings.{shut_server}
 use Rattle.px_exchange.specs.Finds.{look_head, or_leaves}
-use Rattle.px_chain.specs.Chain.{begin, behind, look, pass, sight_past, so_far}
+use Rattle.px_chain.specs.Chain.{begin, behind, http_chain, look, pass, sequence, sight_past, so_far}
 use Rattle.px_chain.specs.Left.{behind_left, stages_left}
 use Rattle.px_chain.specs.Sights.{Sight, Standing, server_parked, sight_of, sight_over}
-use Rattle.px_chain.specs.Stages.{At, Parked, Stage, busy, idle, side_parked}
+use Rattle.px_chain.specs.Stages.{At, Parked, Stage, busy, coming_down, idle, response_body, side_parked}
 use Rattle.px_chain.proofs.Quiet.{any_flow}
 use Rattle.px_chain.proofs.QuietLemmas.{so_far_quiet}
 use Rattle.px_stream.specs.declared.link.Link.{Link}
@@ -28,25 +30,57 @@ use Rattle.px_stream.specs.declared.stream.Stream.{Stream}
 use Rattle.px_stream.specs.Anywhere.{Begins, BeginsThere, GoesOnWith, IsCounted, IsFew, IsInSequence, IsNew, MayBegin, MayGoOn, Waits, doing_by, unheard}
 use Rattle.px_stream.specs.Heard.{IsUnshut, feeds, side_with}
 use Rattle.px_stream.specs.Looks.{MayLook}
-use Rattle.px_stream.specs.Stands.{IsReady, PhaseAt, awaits, parked_link, stage_of}
+use Rattle.px_stream.specs.Passes.{Advances, MayPass}
+use Rattle.px_stream.specs.Stands.{IsReady, PhaseAt, awaits, none_sent, parked_link, stage_of}
 use Rattle.px_stream.specs.Tells.{left_by, sequence_left}
-use Rattle.px_stream.specs.Turns.{LooksOnce}
-use Rattle.px_stream.proofs.CallLemmas.{LookedIn, at_walked, gives_walked, looked_in, may_look, same_tail}
-use Rattle.px_stream.proofs.MoveLemmas.{ask_atoms, asks_by, asks_seen, at_most, quiet_seen}
-use Rattle.px_stream.proofs.TurnLemmas.{none_sent, reads_first}
+use Rattle.px_stream.proofs.AdvanceLemmas.{AdvancedTo, advances_to}
+use Rattle.px_stream.proofs.CallLemmas.{at_walked, gives_walked, may_look, same_tail}
+use Rattle.px_stream.proofs.MoveLemmas.{ask_atoms, asks_by, asks_seen, at_most, pass_silent, quiet_seen}
+use Rattle.px_stream.proofs.TurnLemmas.{sent_none, reads_first}
 
--- what one look asks is awaited, where nothing was sent on before
-pub looked_asks : (made : Terms) (before after : Stream) (stage : Stage) (seen : Sight) (out longer : List Command) (got : LookedIn made before after stage seen [] out longer) →
+-- what is asked where it went on and looked is awaited, where nothing was sent on before
+pub looked_asks : (made : Terms) (after : Stream) (stage : Stage) (seen : Sight) (out longer : List Command) (got : AdvancedTo made after stage seen none_sent out longer) →
     flat_map asks_in got.more ≡ option_to_list (awaits after)
-looked_asks made before after stage seen out longer got =
-    let there : Stage = pass stage seen in
+looked_asks made after stage seen out longer got =
+    let there : Stage = sequence (pass stage seen).stage in
     let sees : Sight = sight_past stage seen in
+    let owed : List Command = (pass stage seen).owed in
     let fw : List Command = found_with (behind there sees) (look made there sees) in
+    let rest : List Command = so_far there sees ++ fw in
     asks_seen got.more
     ∙ (ap (flat_map ask_atoms)
-    (ap (λ l. seen_of questions (l ++ got.more)) (sym (none_sent stage))
-    ∙ (ap (seen_of questions) got.owes ∙ (seen_append questions (so_far there sees) fw ∙ ap (λ l. l ++ seen_of questions fw) (quiet_seen (so_far there sees) (so_far_quiet any_flow there sees)))))
+    (ap (λ l. seen_of questions (l ++ got.more)) (sym (sent_none stage))
+    ∙ (got.owes questions ∙ (seen_append questions owed rest ∙ (ap (λ l. l ++ seen_of questions rest) (pass_silent made stage seen)
+    ∙ (seen_append questions (so_far there sees) fw ∙ ap (λ l. l ++ seen_of questions fw) (quiet_seen (so_far there sees) (so_far_quiet any_flow there sees)))))))
     ∙ asks_by (look made there sees) made after.at after.requests after.side after.phase there sees refl got.is_in.phase)
+
+-- What is given where nothing was sent on before is what is owed there.
+pub gives_all : (made : Terms) (after : Stream) (place : Standing) (prefix : List (Timed Event)) (out longer more : List Command)
+    (got : AdvancedTo made after place.stage (sight_over place prefix) none_sent out longer) → got.more ≡ more → (view : View) →
+    seen_of view more ≡ seen_of view (owed_over (http_chain sequence made) place prefix)
+gives_all made after place prefix out longer more got same view =
+    gives_walked made place prefix (sight_over place prefix) refl view [] more
+    (ap (seen_of view) (sym same ∙ ap (λ l. l ++ got.more) (sym (sent_none place.stage))) ∙ got.owes view)
+
+-- ---- where it goes on without an answer only behind a look
+
+abbrev pub PassesNone : Stage → Type 0
+PassesNone (busy at flow (response_body server how most)) = ⊥
+PassesNone (busy at flow (coming_down server how)) = ⊥
+PassesNone stage = ⊤
+
+pub none_passes : (at : At) (looked : Wanted) (side : Option Link) → PassesNone (stage_of at looked) → MayPass at looked side
+none_passes at ready.Idle side none = tt
+none_passes at (ready.RequestBody flow given body) side none = tt
+none_passes at (ready.Connection flow) side none = tt
+none_passes at (ready.ResponseHead flow server) side none = tt
+none_passes at (ready.ResponseBody flow server most body held) side none = absurd none
+none_passes at (ready.ComingDown flow server sent) side none = absurd none
+none_passes at (ready.Upgraded flow server) side none = tt
+none_passes at (ready.GivenHead flow) side none = tt
+none_passes at (ready.GivenBody flow) side none = tt
+none_passes at (ready.Connects address) side none = tt
+none_passes at ready.Over side none = tt
 
 -- ---- a new stream
 
@@ -80,7 +114,7 @@ stands_first state is_new few ahead dials small =
           terms = refl;
           place = record { is_here = refl; client = is_new.client };
           phase = subst (λ l. PhaseAt l state.terms state.at state.requests state.side state.phase (idle state.at) nothing) (sym (waits_first_look state is_new))
-              (ready.Idle, [], is_new.phase, record { is_stage = refl; request = reads; has_side = is_new.side ∙ unheard_is state.at.parked }, refl);
+              (ready.Idle, none_sent, is_new.phase, record { is_stage = refl; request = reads; has_side = is_new.side ∙ unheard_is state.at.parked }, refl);
         };
       };
       few = record { few = few; dials = dials };
@@ -100,41 +134,41 @@ waits_first (Some parked) rest waiting closed moment = (refl, refl)
 
 module _ (before mid after : Stream) (moment : ℕ) (closed : Bool) (rest waiting : List ℕ) (out longer : List Command) (is_new : IsNew before) (terms : mid.terms ≡ before.terms) (at : mid.at ≡ before.at)
     (client : mid.client_closed ≡ closed) (kept : mid.requests ≡ feeds rest before.requests) (fed : mid.side ≡ side_with (λ link. record link { responses = feeds waiting link.responses }) before.side)
-    (once : LooksOnce mid after moment ready.Idle out longer) where
+    (once : Advances mid after moment ready.Idle out longer) where
   -- in a sight of these bytes
   begun_in : (made : Terms) (seen : Sight) → before.terms ≡ made → seen.client ≡ rest → seen.closed ≡ closed → Waits before.at.parked seen waiting → moment ≡ seen.now →
-      LookedIn made mid after (idle before.at) seen [] out longer
+      AdvancedTo made after (idle before.at) seen none_sent out longer
   begun_in made seen is come shut waits now =
       let read : mid.requests ≡ before_all request rest false = kept ∙ ap (feeds rest) is_new.requests in
       let reads : Reads request [] seen.client false mid.requests =
       subst (λ s. Reads request [] seen.client false s) (sym read) (subst (λ l. Reads request [] l false (before_all request rest false)) (sym come) (reads_first request rest false)) in
       let side : mid.side ≡ parked_link before.at.parked seen =
       fed ∙ (ap (side_with (λ link. record link { responses = feeds waiting link.responses })) is_new.side ∙ waits_there before.at.parked seen waiting waits) in
-      looked_in made mid after moment ready.Idle out longer (idle before.at) seen [] (terms ∙ is) now
+      advances_to made mid after moment ready.Idle out longer (idle before.at) seen none_sent (terms ∙ is) now
       (record { is_stage = ap idle at; request = reads; has_side = side }) (record { is_here = at; client = client ∙ sym shut }) once
 
-  abbrev canonical : LookedIn before.terms mid after (idle before.at) (record { client = rest; closed = closed; server = waiting; shut = false; now = moment }) [] out longer
+  abbrev canonical : AdvancedTo before.terms after (idle before.at) (record { client = rest; closed = closed; server = waiting; shut = false; now = moment }) none_sent out longer
   canonical = begun_in before.terms (record { client = rest; closed = closed; server = waiting; shut = false; now = moment }) refl refl refl (waits_first before.at.parked rest waiting closed moment) refl
 
   begins_by : (made : Terms) (ahead : ℕ) (place : Standing) (prefix : List (Timed Event)) → MayBegin made ahead before moment closed rest waiting place prefix → BeginsThere made ahead after canonical.more place prefix
   begins_by made ahead place prefix may =
       let seen : Sight = sight_over place prefix in
-      let got = subst (λ s. LookedIn made mid after s seen [] out longer) (sym may.stage) (begun_in made seen may.terms may.come may.client may.waits may.now) in
+      let got = subst (λ s. AdvancedTo made after s seen none_sent out longer) (sym may.stage) (begun_in made seen may.terms may.come may.client may.waits may.now) in
       let same : got.more ≡ canonical.more = same_tail out got.more canonical.more (sym got.grown ∙ canonical.grown) in
       record {
         is_there = record {
           is_at = at_walked made place prefix seen refl after may.within got.is_in;
-          few = subst (λ s. IsFew ahead (pass s seen)) (sym may.stage) may.few;
+          few = subst (λ s. IsFew ahead (sequence (pass s seen).stage)) (sym may.stage) may.few;
           small = may.small;
         };
-        gives = λ view. gives_walked made place prefix seen refl view [] canonical.more (sym same ∙ (ap (λ l. l ++ got.more) (sym (none_sent place.stage)) ∙ got.owes));
+        gives = gives_all made after place prefix out longer canonical.more got same;
       }
 
   pub begins_with : Begins before after moment closed rest waiting out longer
   begins_with = record { more = canonical.more; grown = canonical.grown; begins = begins_by }
 
   pub begin_asks : AsksOnly (awaits after) out longer
-  begin_asks = (canonical.more, canonical.grown, looked_asks before.terms mid after (idle before.at) _ out longer canonical)
+  begin_asks = (canonical.more, canonical.grown, looked_asks before.terms after (idle before.at) _ out longer canonical)
 
   pub begin_left : sequence_left after ≤ sequence_left before
   begin_left =
@@ -144,11 +178,15 @@ module _ (before mid after : Stream) (moment : ℕ) (closed : Bool) (rest waitin
 
 -- ---- with a flow whose request others have read
 
-few_there : (given : Option Response) (ahead : ℕ) (at : At) (flow : Flow) (seen : Sight) → IsCounted ahead at → IsFew ahead (pass (busy at flow (doing_by given)) seen)
+few_there : (given : Option Response) (ahead : ℕ) (at : At) (flow : Flow) (seen : Sight) → IsCounted ahead at → IsFew ahead (sequence (pass (busy at flow (doing_by given)) seen).stage)
 few_there None ahead at flow seen few = few
 few_there (Some response) ahead at flow seen few = let f = few.few in let d = few.dials in record { few = f; dials = omega arith }
 
-left_there : (given : Option Response) (at : At) (flow : Flow) (seen : Sight) → stages_left (pass (busy at flow (doing_by given)) seen) ≤ behind_left at.flow + 5
+still_there : (given : Option Response) (at : At) (flow : Flow) → PassesNone (busy at flow (doing_by given))
+still_there None at flow = tt
+still_there (Some response) at flow = tt
+
+left_there : (given : Option Response) (at : At) (flow : Flow) (seen : Sight) → stages_left (sequence (pass (busy at flow (doing_by given)) seen).stage) ≤ behind_left at.flow + 5
 left_there None at flow seen = omega arith
 left_there (Some response) at flow seen = omega arith
 
@@ -157,7 +195,7 @@ unheard_there None moment = refl
 unheard_there (Some parked) moment = refl
 
 ready_there : (given : Option Response) (at : At) (flow : Flow) (seen : Sight) (requests : State) (side : Option Link) (looked : Wanted) → stage_of at looked ≡ busy at flow (doing_by given) →
-    seen.client ≡ [] → requests ≡ before_all request [] false → side ≡ parked_link at.parked seen → IsReady at requests side looked (busy at flow (doing_by given)) seen []
+    seen.client ≡ [] → requests ≡ before_all request [] false → side ≡ parked_link at.parked seen → IsReady at requests side looked (busy at flow (doing_by given)) seen none_sent
 ready_there None at flow seen requests side looked is come new parked =
     record { is_stage = is; request = record { rest = ap (λ (s : State). s.rest) new ∙ sym come; open_still = ap (λ (s : State). s.closed) new }; has_side = parked }
 ready_there (Some response) at flow seen requests side looked is come new parked =
@@ -167,42 +205,46 @@ module _ (before : Stream) (moment : ℕ) (flow : Flow) (is_new : IsNew before) 
   abbrev goes : Stage
   goes = busy before.at flow (doing_by flow.response)
 
-  -- it may look there
+  -- it may go on there
+  pub goes_on_passes : MayPass before.at looked before.side
+  goes_on_passes = none_passes before.at looked before.side (subst PassesNone (sym is) (still_there flow.response before.at flow))
+
+  -- and look
   pub goes_on_looks : MayLook looked before.requests before.side
   goes_on_looks =
       let seen : Sight = record { client = []; closed = false; server = []; shut = false; now = moment } in
-      may_look before.at before.requests before.side looked goes seen []
+      may_look before.at before.requests before.side looked goes seen none_sent
       (ready_there flow.response before.at flow seen before.requests before.side looked is refl is_new.requests (is_new.side ∙ unheard_there before.at.parked moment))
 
-  module _ (after : Stream) (out longer : List Command) (once : LooksOnce before after moment looked out longer) where
+  module _ (after : Stream) (out longer : List Command) (once : Advances before after moment looked out longer) where
     goes_in : (made : Terms) (seen : Sight) → before.terms ≡ made → seen.client ≡ [] → seen.closed ≡ false → before.side ≡ parked_link before.at.parked seen → moment ≡ seen.now →
-        LookedIn made before after goes seen [] out longer
+        AdvancedTo made after goes seen none_sent out longer
     goes_in made seen terms come shut parked now =
-        looked_in made before after moment looked out longer goes seen [] terms now (ready_there flow.response before.at flow seen before.requests before.side looked is come is_new.requests parked)
+        advances_to made before after moment looked out longer goes seen none_sent terms now (ready_there flow.response before.at flow seen before.requests before.side looked is come is_new.requests parked)
         (record { is_here = refl; client = is_new.client ∙ sym shut }) once
 
-    abbrev going : LookedIn before.terms before after goes (record { client = []; closed = false; server = []; shut = false; now = moment }) [] out longer
+    abbrev going : AdvancedTo before.terms after goes (record { client = []; closed = false; server = []; shut = false; now = moment }) none_sent out longer
     going = goes_in before.terms (record { client = []; closed = false; server = []; shut = false; now = moment }) refl refl refl (is_new.side ∙ unheard_there before.at.parked moment) refl
 
     goes_by : (made : Terms) (ahead : ℕ) (place : Standing) (prefix : List (Timed Event)) → MayGoOn made ahead before moment flow place prefix → BeginsThere made ahead after going.more place prefix
     goes_by made ahead place prefix may =
         let seen : Sight = sight_over place prefix in
-        let got = subst (λ s. LookedIn made before after s seen [] out longer) (sym may.stage) (goes_in made seen may.terms may.come may.client may.parked may.now) in
+        let got = subst (λ s. AdvancedTo made after s seen none_sent out longer) (sym may.stage) (goes_in made seen may.terms may.come may.client may.parked may.now) in
         let same : got.more ≡ going.more = same_tail out got.more going.more (sym got.grown ∙ going.grown) in
         record {
           is_there = record {
             is_at = at_walked made place prefix seen refl after may.within got.is_in;
-            few = subst (λ s. IsFew ahead (pass s seen)) (sym may.stage) (few_there flow.response ahead before.at flow seen may.few);
+            few = subst (λ s. IsFew ahead (sequence (pass s seen).stage)) (sym may.stage) (few_there flow.response ahead before.at flow seen may.few);
             small = may.small;
           };
-          gives = λ view. gives_walked made place prefix seen refl view [] going.more (sym same ∙ (ap (λ l. l ++ got.more) (sym (none_sent place.stage)) ∙ got.owes));
+          gives = gives_all made after place prefix out longer going.more got same;
         }
 
     pub goes_on_with : GoesOnWith before after moment flow out longer
     goes_on_with = record { more = going.more; grown = going.grown; goes_on = goes_by }
 
     pub goes_on_asks : AsksOnly (awaits after) out longer
-    goes_on_asks = (going.more, going.grown, looked_asks before.terms before after goes _ out longer going)
+    goes_on_asks = (going.more, going.grown, looked_asks before.terms after goes _ out longer going)
 
     pub goes_on_left : sequence_left after ≤ sequence_left before
     goes_on_left =

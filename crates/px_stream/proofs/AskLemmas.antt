@@ -18,7 +18,7 @@ use Rattle.px_exchange.specs.Requests.{judged}
 use Rattle.px_chain.specs.Chain.{find, leaving, look}
 use Rattle.px_chain.specs.Left.{stage_left}
 use Rattle.px_chain.specs.Sights.{Sight, answers_in, dials_at, request_in, server_in, server_parked}
-use Rattle.px_chain.specs.Stages.{At, Stage, busy, connection, given_body, given_head, idle, next, over, place_of, request_body, response_body, response_head, upgraded}
+use Rattle.px_chain.specs.Stages.{At, Stage, busy, coming_down, connection, given_body, given_head, idle, next, over, place_of, request_body, response_body, response_head, upgraded}
 use Rattle.px_stream.specs.declared.phase.Asked.{Asked}
 use Rattle.px_stream.specs.declared.phase.Phase.TheVariants as phase
 use Rattle.px_stream.specs.Stands.{answer_asked, asked_in, asked_of, body_asked, head_asked, judged_asked, returned_asked}
@@ -37,12 +37,14 @@ Facts at seen dials count uses used l (Some found) =
 -- the server whose side a stage uses
 abbrev pub used_of : Stage → Sight → Used
 used_of (busy at flow (response_head server how)) seen = server_in server seen
-used_of (busy at flow (response_body server how)) seen = server_in server seen
+used_of (busy at flow (response_body server how most)) seen = server_in server seen
+used_of (busy at flow (coming_down server how)) seen = server_in server seen
 used_of stage seen = server_parked (place_of stage).parked seen
 
 abbrev pub uses_of : Stage → Bool
 uses_of (busy at flow (response_head server how)) = true
-uses_of (busy at flow (response_body server how)) = true
+uses_of (busy at flow (response_body server how most)) = true
+uses_of (busy at flow (coming_down server how)) = true
 uses_of stage = false
 
 module _ (at : At) (seen : Sight) where
@@ -97,7 +99,8 @@ facts_in terms (idle at) seen = head_facts at seen terms (request_in seen)
 facts_in terms (busy at flow (request_body given)) seen = body_facts at seen flow (request_in seen)
 facts_in terms (busy at flow connection) seen = (refl, refl, refl, refl, refl)
 facts_in terms (busy at flow (response_head server how)) seen = answer_facts at seen flow server (answers_in flow.request seen).final
-facts_in terms (busy at flow (response_body server how)) seen = returned_facts at seen flow server (answers_in flow.request seen).final
+facts_in terms (busy at flow (response_body server how most)) seen = returned_facts at seen flow server (answers_in flow.request seen).final
+facts_in terms (busy at flow (coming_down server how)) seen = tt
 facts_in terms (busy at flow (upgraded server)) seen = tt
 facts_in terms (busy at flow given_head) seen = (refl, refl, refl, refl, refl)
 facts_in terms (busy at flow given_body) seen = (refl, refl, refl, refl, refl)

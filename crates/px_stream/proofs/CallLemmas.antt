@@ -6,7 +6,7 @@ use Rattle.px_event.specs.declared.ask.Ask.{Ask}
 use Rattle.px_event.specs.declared.command.Command.{Command}
 use Rattle.px_event.specs.declared.event.Event.{Event}
 use Rattle.px_event.specs.declared.reply.Reply.{Reply}
-use Rattle.px_event.specs.Chain.{Timed, Look, NotYet, Asks, Ends, Turn, found_with}
+use Rattle.px_event.specs.Chain.{Timed, Look, NotYet, Asks, Ends, Turn}
 use Rattle.px_event.specs.Laws.{owed_over}
 use Rattle.px_event.specs.Layer.{AsksOnly, MayAnswer}
 use Rattle.px_event.specs.View.{View, seen_of}
@@ -15,19 +15,19 @@ use Rattle.px_event.proofs.Steps.{Takes, onward, past_end, Resumes}
 use Rattle.px_message.specs.declared.flow.Flow.{Flow}
 use Rattle.px_message.specs.declared.request.Request.{Request}
 use Rattle.px_message.specs.declared.response.Response.{Response}
-use Rattle.px_read.specs.Items.{Item, missing, part, complete, bad_head, bad_body}
 use Rattle.px_read.specs.Marks.{Mark, asks, answers}
 use Rattle.px_read.specs.Reader.{State, request, response}
-use Rattle.px_read.specs.declared.head.RequestHead.{RequestHead as ReadRequest}
 use Rattle.px_read.specs.declared.head.ResponseHead.{ResponseHead as ReadResponse}
 use Rattle.px_exchange.specs.declared.ending.Used.{Used}
 use Rattle.px_exchange.specs.declared.terms.Terms.{Terms}
 use Rattle.px_exchange.specs.Requests.{is_head}
-use Rattle.px_chain.specs.Chain.{behind, http_chain, is_sequence, look, pass, pass_body, passed, sequence, sight_past, so_far, stands, turn}
-use Rattle.px_chain.specs.Sights.{IsWithin, Sight, Standing, request_in, server_in, server_parked, sight_behind, sight_over, sight_with}
-use Rattle.px_chain.specs.Stages.{At, Parked, Stage, busy, connection, given_body, given_head, idle, next, over, place_of, request_body, response_body, response_head, side_of, upgraded}
+use Rattle.px_chain.specs.Chain.{http_chain, is_sequence, look, pass, passed, sequence, sight_past, so_far, stands, turn}
+use Rattle.px_chain.specs.Sights.{IsWithin, Sight, Standing, server_in, server_parked, sight_behind, sight_over, sight_with}
+use Rattle.px_chain.specs.Stages.{At, Parked, Stage, busy, coming_down, connection, given_body, given_head, idle, next, over, place_of, request_body, response_body, response_head, side_of, upgraded}
 use Rattle.px_chain.proofs.ChainLaws.{open_still}
 use Rattle.px_chain.proofs.SightLaws.{onward_from, sight_more, sight_passed, sight_turned, within_more, within_passed, within_stood}
+use Rattle.px_exchange.specs.Bodies.{IsReading}
+use Rattle.px_stream.specs.declared.coming.Held.{Held}
 use Rattle.px_stream.specs.declared.link.Link.{Link}
 use Rattle.px_stream.specs.declared.phase.Asked.{Asked}
 use Rattle.px_stream.specs.declared.phase.Phase.{Phase}
@@ -38,42 +38,49 @@ use Rattle.px_stream.specs.declared.stream.Stream.{Stream}
 use Rattle.px_stream.specs.Anywhere.{IsCounted, IsFew, IsInSequence, ResumesAnywhere, Somewhere, TakesAnywhere}
 use Rattle.px_stream.specs.Heard.{SideAgrees, closes_client, requests_take, side_takes}
 use Rattle.px_stream.specs.Looks.{LookFound, MayLook}
-use Rattle.px_stream.specs.Stands.{AskedSide, HasPlace, HasRequest, HasSide, IsAsked, IsAt, IsIn, IsLink, IsOpen, IsPlaced, IsReady, IsSome, LinkKeeps, PhaseAt, ReadsFinal, ReadsReturn, asked_in, awaits, content_in, is_last, parked_link, sent_on, stage_of, used_in}
+use Rattle.px_stream.specs.Passes.{Advances, MayPass, is_passing}
+use Rattle.px_stream.specs.Stands.{AskedSide, HasPlace, HasRequest, HasSide, IsAsked, IsAt, IsIn, IsLink, IsOpen, IsPlaced, IsReady, IsSome, LinkKeeps, PhaseAt, ReadsDown, ReadsFinal, ReadsReturn, SentOn, asked_in, awaits, content_in, is_last, none_sent, parked_link, sent_on, stage_of, used_in}
 use Rattle.px_stream.proofs.StateLaws.{ends_last, ends_where_it_ends}
 use Rattle.px_stream.specs.Tells.{sequence_left}
-use Rattle.px_stream.specs.Turns.{Hears, LooksOnce, Shows, Turned, TurnsTo, asked_turn, is_dial, requests_behind, side_behind, used_at}
+use Rattle.px_stream.specs.Turns.{FirstHeld, Hears, Shows, Turned, TurnsTo, asked_turn, is_dial, requests_behind, side_behind, used_at}
+use Rattle.px_stream.proofs.AdvanceLemmas.{AdvancedTo, advances_to, owed_at, owed_in, passed_to}
 use Rattle.px_stream.proofs.AskLemmas.{used_asked, used_of}
 use Rattle.px_stream.proofs.HearLemmas.{place_on, ready_on}
-use Rattle.px_stream.proofs.LookLemmas.{advanced, parked_used}
-use Rattle.px_stream.proofs.MoveLemmas.{pass_few, resumes_asks, resumes_left, sequence_few, takes_asks, takes_left}
+use Rattle.px_stream.proofs.LookLemmas.{parked_used}
+use Rattle.px_stream.proofs.MoveLemmas.{pass_few, resumes_asks, resumes_left, sequence_few, takes_asks, takes_left, turn_few}
 use Rattle.px_stream.proofs.TurnLemmas.{turn_asked, turned}
 
 -- ---- the calls
 
--- It took this answer, and then looked once.
+-- It took this answer, and then went on and looked once.
 pub record Answers (before after : Stream) (moment : ℕ) (reply : Reply) (found : Asked) (out longer : List Command) : Type 0 where
   pub between : Stream
   pub looked : Wanted
   pub given : List Command
   pub turns : TurnsTo before between moment reply found looked out given
-  pub looks : LooksOnce between after moment looked given longer
+  pub advances : Advances between after moment looked given longer
 
--- Wherever this answer leads, it may look there.
+-- It may go on from here, and look.
+pub record MayAdvance (at : At) (requests : State) (side : Option Link) (looked : Wanted) : Type 0 where
+  pub passes : MayPass at looked side
+  pub looks : is_passing looked ≡ false → MayLook looked requests side
+
+-- Wherever this answer leads, it may go on from there.
 abbrev pub MayTurn : Stream → ℕ → Reply → Asked → Type 0
 MayTurn before moment reply found = (between : Stream) (looked : Wanted) (out longer : List Command) → TurnsTo before between moment reply found looked out longer →
-    MayLook looked between.requests between.side
+    MayAdvance between.at between.requests between.side looked
 
--- Its readers may hear this event, and then look.
-pub record MayHear (event : Event) (requests : State) (side : Option Link) (looked : Wanted) : Type 0 where
+-- Its readers may hear this event, and then it may go on.
+pub record MayHear (at : At) (event : Event) (requests : State) (side : Option Link) (looked : Wanted) : Type 0 where
   pub agrees : SideAgrees side
   pub open_still : requests.closed ≡ false
-  pub looks : MayLook looked (requests_take event requests) (side_takes event side)
+  pub advances : MayAdvance at (requests_take event requests) (side_takes event side) looked
 
--- What it does with an event, where no answer is awaited: where it has ended nothing, and else it hears it and looks once.
+-- What it does with an event, where no answer is awaited: where it has ended nothing, and else it hears it, goes on and looks once.
 pub data TakesEvent (before after : Stream) (moment : ℕ) (event : Event) (out longer : List Command) : Type 0 where
   ended : is_last before.phase ≡ true → after ≡ before → longer ≡ out → TakesEvent before after moment event out longer
   hears : (looked : Wanted) (between : Stream) → before.phase ≡ phase.Ready looked → is_last (phase.Ready looked) ≡ false → Hears before between event →
-      LooksOnce between after moment looked out longer → TakesEvent before after moment event out longer
+      Advances between after moment looked out longer → TakesEvent before after moment event out longer
 
 -- behind one list the rest is one
 pub same_tail : (xs ys zs : List Command) → xs ++ ys ≡ xs ++ zs → ys ≡ zs
@@ -84,23 +91,23 @@ same_tail (x ∷ xs) ys zs is = same_tail xs ys zs (let e : x ∷ (xs ++ ys) ≡
 
 module _ (made : Terms) (place : Standing) (prefix : List (Timed Event)) (seen : Sight) (same : sight_over place prefix ≡ seen) where
   -- a state that is at the stage passed to, in what is left of the sight, is there
-  pub at_walked : (state : Stream) → IsWithin place prefix → IsIn made state (pass place.stage seen) (sight_past place.stage seen) → IsAt made state (passed place (sight_over place prefix)) prefix
+  pub at_walked : (state : Stream) → IsWithin place prefix → IsIn made state (passed_to place.stage seen) (sight_past place.stage seen) →
+      IsAt made state (passed sequence place (sight_over place prefix)) prefix
   at_walked state within is = record {
-    within = within_passed place prefix within;
-    is_in = subst (λ s. IsIn made state (pass place.stage (sight_over place prefix)) s) (sym (sight_passed place prefix))
-        (subst (λ s. IsIn made state (pass place.stage s) (sight_past place.stage s)) (sym same) is);
+    within = within_passed sequence (is_sequence refl) place prefix within;
+    is_in = subst (λ s. IsIn made state (passed_to place.stage (sight_over place prefix)) s) (sym (sight_passed sequence (is_sequence refl) place prefix))
+        (subst (λ s. IsIn made state (passed_to place.stage s) (sight_past place.stage s)) (sym same) is);
   }
 
-  abbrev Owed : Stage → Sight → List Command
-  Owed stage sees = so_far stage sees ++ found_with (behind stage sees) (look made stage sees)
-
   -- what is added behind what was owed is what is owed now
-  pub gives_walked : (view : View) (before more : List Command) → before ++ more ≡ Owed (pass place.stage seen) (sight_past place.stage seen) →
+  pub gives_walked : (view : View) (before more : List Command) → seen_of view (before ++ more) ≡ seen_of view (owed_in made place.stage seen) →
       seen_of view before ++ seen_of view more ≡ seen_of view (owed_over (http_chain sequence made) place prefix)
   gives_walked view before more owes =
+      let sees : Sight = sight_over place prefix in
       sym (seen_append view before more)
-      ∙ ap (seen_of view) (owes ∙ (ap (λ s. Owed (pass place.stage s) (sight_past place.stage s)) (sym same)
-      ∙ ap (λ s. Owed (pass place.stage (sight_over place prefix)) s) (sym (sight_passed place prefix))))
+      ∙ (owes
+      ∙ ap (seen_of view) (ap (λ s. owed_in made place.stage s) (sym same)
+      ∙ ap (λ s. (pass place.stage sees).owed ++ owed_at made (passed_to place.stage sees) s) (sym (sight_passed sequence (is_sequence refl) place prefix))))
 
 -- ---- what the readers may hear, and look for
 
@@ -109,28 +116,72 @@ open_to : (P Q : Link → Type 0) → ((link : Link) → P link → Q link) → 
 open_to P Q goes None is = absurd is
 open_to P Q goes (Some link) is = goes link is
 
-may_look_by : (at : At) (looked : Wanted) (seen : Sight) (sent : List ReadResponse) (requests : State) (side : Option Link) → HasRequest (stage_of at looked) seen (content_in looked) requests →
-    HasSide (stage_of at looked) seen sent (content_in looked) side → MayLook looked requests side
+reads_return : (flow : Flow) (server : ℕ) (most : Option ℕ) (seen : Sight) (content : List ℕ) (held : Option Held) (side : Option Link) → IsOpen (ReadsReturn flow server most seen content held) side →
+    IsOpen (λ link. IsReading link.responses) side
+reads_return flow server most seen content held side has =
+    open_to (ReadsReturn flow server most seen content held) (λ link. IsReading link.responses)
+    (λ link is. record { message = response (is_head flow.request.method); told = answers is.head ∷ is.marks; fed = is.is_link.fed; closed = seen.shut; reads = is.is_link.reads }) side has
+
+reads_down : (flow : Flow) (server : ℕ) (seen : Sight) (is_sent : Option Response) (text : List ℕ) (side : Option Link) → IsOpen (ReadsDown flow server seen is_sent text) side →
+    IsOpen (λ link. IsReading link.responses) side
+reads_down flow server seen is_sent text side has =
+    open_to (ReadsDown flow server seen is_sent text) (λ link. IsReading link.responses)
+    (λ link is. record { message = response (is_head flow.request.method); told = answers is.head ∷ is.marks; fed = is.is_link.fed; closed = seen.shut; reads = is.is_link.reads }) side has
+
+may_look_by : (at : At) (looked : Wanted) (seen : Sight) (sent : SentOn) (requests : State) (side : Option Link) → HasRequest (stage_of at looked) seen (content_in looked) requests →
+    HasSide (stage_of at looked) seen sent looked side → MayLook looked requests side
 may_look_by at ready.Idle seen sent requests side reads has = tt
 may_look_by at (ready.RequestBody flow given body) seen sent requests side reads has =
     record { message = request; told = asks reads.head ∷ reads.marks; fed = seen.client; closed = false; reads = reads.reads }
 may_look_by at (ready.Connection flow) seen sent requests side reads has = tt
 may_look_by at (ready.ResponseHead flow server) seen sent requests side reads has =
-    open_to (IsLink flow.request server seen sent []) _
-    (λ link is. record { asked_head = is_head flow.request.method; number = server; bytes = seen.server; shut = seen.shut; sent = sent; keeps = is }) side has
-may_look_by at (ready.ResponseBody flow server body) seen sent requests side reads has =
-    open_to (ReadsReturn flow.request server seen body) _
-    (λ link is. record { message = response (is_head flow.request.method); told = answers is.head ∷ is.marks; fed = is.is_link.fed; closed = seen.shut; reads = is.is_link.reads }) side has
+    open_to (IsLink flow.request server seen sent.interim []) _
+    (λ link is. record { asked_head = is_head flow.request.method; number = server; bytes = seen.server; shut = seen.shut; sent = sent.interim; keeps = is }) side has
+may_look_by at (ready.ResponseBody flow server most body held) seen sent requests side reads has = reads_return flow server most seen body held side has
+may_look_by at (ready.ComingDown flow server its) seen sent requests side reads has = reads_down flow server seen (Some its) sent.text side has
 may_look_by at (ready.Upgraded flow server) seen sent requests side reads has = tt
 may_look_by at (ready.GivenHead flow) seen sent requests side reads has = tt
 may_look_by at (ready.GivenBody flow) seen sent requests side reads has = tt
 may_look_by at (ready.Connects address) seen sent requests side reads has = tt
 may_look_by at ready.Over seen sent requests side reads has = tt
 
-pub may_look : (at : At) (requests : State) (side : Option Link) (looked : Wanted) (stage : Stage) (seen : Sight) (sent : List ReadResponse) → IsReady at requests side looked stage seen sent → MayLook looked requests side
+pub may_look : (at : At) (requests : State) (side : Option Link) (looked : Wanted) (stage : Stage) (seen : Sight) (sent : SentOn) → IsReady at requests side looked stage seen sent → MayLook looked requests side
 may_look at requests side looked stage seen sent is =
     may_look_by at looked seen sent requests side (subst (λ s. HasRequest s seen (content_in looked) requests) (sym is.is_stage) is.request)
-    (subst (λ s. HasSide s seen sent (content_in looked) side) (sym is.is_stage) is.has_side)
+    (subst (λ s. HasSide s seen sent looked side) (sym is.is_stage) is.has_side)
+
+-- where a body may be streamed, or is, its response is there
+held_given : (flow : Flow) (server : ℕ) (most : Option ℕ) (seen : Sight) (content : List ℕ) (held : Held) (side : Option Link) → IsOpen (ReadsReturn flow server most seen content (Some held)) side → IsSome flow.response
+held_given flow server most seen content held None is = absurd is
+held_given flow server most seen content held (Some link) is = is.holds.0
+
+down_given : (flow : Flow) (server : ℕ) (seen : Sight) (is_sent : Option Response) (text : List ℕ) (side : Option Link) → IsOpen (ReadsDown flow server seen is_sent text) side → IsSome flow.response
+down_given flow server seen is_sent text None is = absurd is
+down_given flow server seen is_sent text (Some link) is = let P : Option Response → Type 0 = IsSome in subst P (sym is.streamed.is_given) tt
+
+may_pass_by : (ahead : ℕ) (at : At) (looked : Wanted) (seen : Sight) (sent : SentOn) (side : Option Link) → IsFew ahead (stage_of at looked) → HasSide (stage_of at looked) seen sent looked side → MayPass at looked side
+may_pass_by ahead at ready.Idle seen sent side few has = tt
+may_pass_by ahead at (ready.RequestBody flow given body) seen sent side few has = tt
+may_pass_by ahead at (ready.Connection flow) seen sent side few has = tt
+may_pass_by ahead at (ready.ResponseHead flow server) seen sent side few has = tt
+may_pass_by ahead at (ready.ResponseBody flow server most body None) seen sent side few has = tt
+may_pass_by ahead at (ready.ResponseBody flow server most body (Some held)) seen sent side few has =
+    record { few = few.few; given = held_given flow server most seen body held side has; reads = reads_return flow server most seen body (Some held) side has }
+may_pass_by ahead at (ready.ComingDown flow server its) seen sent side few has =
+    record { few = few.few; given = down_given flow server seen (Some its) sent.text side has; reads = reads_down flow server seen (Some its) sent.text side has }
+may_pass_by ahead at (ready.Upgraded flow server) seen sent side few has = tt
+may_pass_by ahead at (ready.GivenHead flow) seen sent side few has = tt
+may_pass_by ahead at (ready.GivenBody flow) seen sent side few has = tt
+may_pass_by ahead at (ready.Connects address) seen sent side few has = tt
+may_pass_by ahead at ready.Over seen sent side few has = tt
+
+-- It may go on, and look, where the flow is one of a few.
+pub may_advance : (ahead : ℕ) (at : At) (requests : State) (side : Option Link) (looked : Wanted) (stage : Stage) (seen : Sight) (sent : SentOn) → IsFew ahead stage →
+    IsReady at requests side looked stage seen sent → MayAdvance at requests side looked
+may_advance ahead at requests side looked stage seen sent few is = record {
+  passes = may_pass_by ahead at looked seen sent side (subst (IsFew ahead) (sym is.is_stage) few) (subst (λ s. HasSide s seen sent looked side) (sym is.is_stage) is.has_side);
+  looks = λ none. may_look at requests side looked stage seen sent is;
+}
 
 parked_agrees : (parked : Option Parked) (seen : Sight) (side : Option Link) → side ≡ parked_link parked seen → SideAgrees side
 parked_agrees parked seen side is = subst SideAgrees (sym is) (by parked)
@@ -143,40 +194,46 @@ link_agrees : (message : Request) (server : ℕ) (seen : Sight) (sent : List Rea
 link_agrees message server seen sent told None is = absurd is
 link_agrees message server seen sent told (Some link) is = is.reads.closed ∙ sym is.closed
 
-return_agrees : (message : Request) (server : ℕ) (seen : Sight) (content : List ℕ) (side : Option Link) → IsOpen (ReadsReturn message server seen content) side → SideAgrees side
-return_agrees message server seen content None is = absurd is
-return_agrees message server seen content (Some link) is = is.is_link.reads.closed ∙ sym is.is_link.closed
+return_agrees : (flow : Flow) (server : ℕ) (most : Option ℕ) (seen : Sight) (content : List ℕ) (held : Option Held) (side : Option Link) → IsOpen (ReadsReturn flow server most seen content held) side → SideAgrees side
+return_agrees flow server most seen content held None is = absurd is
+return_agrees flow server most seen content held (Some link) is = is.is_link.reads.closed ∙ sym is.is_link.closed
+
+down_agrees : (flow : Flow) (server : ℕ) (seen : Sight) (is_sent : Option Response) (text : List ℕ) (side : Option Link) → IsOpen (ReadsDown flow server seen is_sent text) side → SideAgrees side
+down_agrees flow server seen is_sent text None is = absurd is
+down_agrees flow server seen is_sent text (Some link) is = is.is_link.reads.closed ∙ sym is.is_link.closed
 
 -- what is still to be told of the client, and of the side
 pub record MayHearMore (requests : State) (side : Option Link) : Type 0 where
   pub open_still : requests.closed ≡ false
   pub agrees : SideAgrees side
 
-hears_by : (at : At) (looked : Wanted) (seen : Sight) (sent : List ReadResponse) (requests : State) (side : Option Link) → is_last (phase.Ready looked) ≡ false →
-    HasRequest (stage_of at looked) seen (content_in looked) requests → HasSide (stage_of at looked) seen sent (content_in looked) side → MayHearMore requests side
+hears_by : (at : At) (looked : Wanted) (seen : Sight) (sent : SentOn) (requests : State) (side : Option Link) → is_last (phase.Ready looked) ≡ false →
+    HasRequest (stage_of at looked) seen (content_in looked) requests → HasSide (stage_of at looked) seen sent looked side → MayHearMore requests side
 hears_by at ready.Idle seen sent requests side goes reads has = record { open_still = reads.closed; agrees = parked_agrees at.parked seen side has }
 hears_by at (ready.RequestBody flow given body) seen sent requests side goes reads has = record { open_still = reads.reads.closed; agrees = parked_agrees at.parked seen side has }
 hears_by at (ready.Connection flow) seen sent requests side goes reads has = record { open_still = reads.open_still; agrees = parked_agrees at.parked seen side has }
 hears_by at (ready.ResponseHead flow server) seen sent requests side goes reads has =
-    record { open_still = reads.open_still; agrees = link_agrees flow.request server seen sent [] side has }
-hears_by at (ready.ResponseBody flow server body) seen sent requests side goes reads has =
-    record { open_still = reads.open_still; agrees = return_agrees flow.request server seen body side has }
+    record { open_still = reads.open_still; agrees = link_agrees flow.request server seen sent.interim [] side has }
+hears_by at (ready.ResponseBody flow server most body held) seen sent requests side goes reads has =
+    record { open_still = reads.open_still; agrees = return_agrees flow server most seen body held side has }
+hears_by at (ready.ComingDown flow server its) seen sent requests side goes reads has =
+    record { open_still = reads.open_still; agrees = down_agrees flow server seen (Some its) sent.text side has }
 hears_by at (ready.Upgraded flow server) seen sent requests side goes reads has = absurd (let no : true ≡ false = goes in cc)
 hears_by at (ready.GivenHead flow) seen sent requests side goes reads has = record { open_still = reads.open_still; agrees = parked_agrees at.parked seen side has }
 hears_by at (ready.GivenBody flow) seen sent requests side goes reads has = record { open_still = reads.open_still; agrees = parked_agrees at.parked seen side has }
 hears_by at (ready.Connects address) seen sent requests side goes reads has = absurd (let no : true ≡ false = goes in cc)
 hears_by at ready.Over seen sent requests side goes reads has = absurd (let no : true ≡ false = goes in cc)
 
-may_hear : (at : At) (requests : State) (side : Option Link) (looked : Wanted) (stage : Stage) (seen : Sight) (sent : List ReadResponse) → is_last (phase.Ready looked) ≡ false →
+may_hear : (at : At) (requests : State) (side : Option Link) (looked : Wanted) (stage : Stage) (seen : Sight) (sent : SentOn) → is_last (phase.Ready looked) ≡ false →
     IsReady at requests side looked stage seen sent → MayHearMore requests side
 may_hear at requests side looked stage seen sent goes is =
     hears_by at looked seen sent requests side goes (subst (λ s. HasRequest s seen (content_in looked) requests) (sym is.is_stage) is.request)
-    (subst (λ s. HasSide s seen sent (content_in looked) side) (sym is.is_stage) is.has_side)
+    (subst (λ s. HasSide s seen sent looked side) (sym is.is_stage) is.has_side)
 
 -- where a state that looks for something stands
 pub record LooksAt (made : Terms) (state : Stream) (looked : Wanted) (stage : Stage) (seen : Sight) : Type 0 where
   pub waits : look made stage seen ≡ NotYet
-  pub sent : List ReadResponse
+  pub sent : SentOn
   pub ready : IsReady state.at state.requests state.side looked stage seen sent
   pub gave : so_far stage seen ≡ sent_on stage sent
 
@@ -210,69 +267,17 @@ module _ (made : Terms) (state : Stream) (stage : Stage) (seen : Sight) where
       (ask : Command) × (look made stage seen ≡ Asks ask) × IsAsked made state.requests state.side found stage seen
   asked_at found live is = asked_by found live (look made stage seen) refl is.phase
 
--- ---- one look
-
--- Behind what was done the machine looked once: it is where the stage is passed, and gave what is owed there.
-pub record LookedIn (made : Terms) (before after : Stream) (stage : Stage) (seen : Sight) (sent : List ReadResponse) (out longer : List Command) : Type 0 where
-  pub more : List Command
-  pub grown : longer ≡ out ++ more
-  pub owes : sent_on stage sent ++ more ≡ so_far (pass stage seen) (sight_past stage seen)
-      ++ found_with (behind (pass stage seen) (sight_past stage seen)) (look made (pass stage seen) (sight_past stage seen))
-  pub is_in : IsIn made after (pass stage seen) (sight_past stage seen)
-
--- the place stays where the stage is passed
-place_body : (here : At) (flow : Flow) (own : Option Response) (item : Item ReadRequest) (now : ℕ) (sees : Sight) (at : At) (closed : Bool) → IsPlaced here sees at closed →
-    HasPlace (pass_body here flow own item now) sees at closed
-place_body here flow None item now sees at closed is = is
-place_body here flow (Some given) missing now sees at closed is = is
-place_body here flow (Some given) (part head body) now sees at closed is = is
-place_body here flow (Some given) (complete head body trailers size) now sees at closed is = is
-place_body here flow (Some given) (bad_head fault) now sees at closed is = is
-place_body here flow (Some given) (bad_body fault head body) now sees at closed is = is
-
-place_passed : (stage : Stage) (seen : Sight) (at : At) (closed : Bool) → HasPlace stage seen at closed → HasPlace (pass stage seen) (sight_past stage seen) at closed
-place_passed (idle here) seen at closed is = is
-place_passed (busy here flow (request_body None)) seen at closed is = is
-place_passed (busy here flow (request_body (Some given))) seen at closed is =
-    place_body here flow (Some given) (request_in seen) seen.now (sight_past (busy here flow (request_body (Some given))) seen) at closed (record { is_here = is.is_here; client = is.client })
-place_passed (busy here flow connection) seen at closed is = is
-place_passed (busy here flow (response_head server how)) seen at closed is = is
-place_passed (busy here flow (response_body server how)) seen at closed is = is
-place_passed (busy here flow (upgraded server)) seen at closed is = is
-place_passed (busy here flow given_head) seen at closed is = is
-place_passed (busy here flow given_body) seen at closed is = is
-place_passed (next here) seen at closed is = is
-place_passed over seen at closed is = tt
-
-pub looked_in : (made : Terms) (before after : Stream) (moment : ℕ) (looked : Wanted) (out longer : List Command) (stage : Stage) (seen : Sight) (sent : List ReadResponse) →
-    before.terms ≡ made → moment ≡ seen.now → IsReady before.at before.requests before.side looked stage seen sent → HasPlace stage seen before.at before.client_closed →
-    LooksOnce before after moment looked out longer → LookedIn made before after stage seen sent out longer
-looked_in made before after moment looked out longer stage seen sent terms now ready place once =
-    let found = subst (λ t. LookFound t before.at (used_in before.side) moment before.client_closed looked before.requests after.requests before.side after.side out longer after.phase) terms once.looks in
-    let there = advanced made before.at seen before.requests after.requests before.side after.side moment before.client_closed out longer after.phase sent now stage looked ready place found in
-    record {
-      more = there.more;
-      grown = there.grown;
-      owes = there.owes;
-      is_in = record {
-        terms = once.terms ∙ terms;
-        place = subst (λ a. HasPlace (pass stage seen) (sight_past stage seen) a after.client_closed) (sym once.at)
-            (subst (λ c. HasPlace (pass stage seen) (sight_past stage seen) before.at c) (sym once.client) (place_passed stage seen before.at before.client_closed place));
-        phase = subst (λ a. PhaseAt (look made (pass stage seen) (sight_past stage seen)) made a after.requests after.side after.phase (pass stage seen) (sight_past stage seen)) (sym once.at) there.phase;
-      };
-    }
-
 -- ---- an event
 
 module _ (before after : Stream) (moment : ℕ) (event : Event) (out longer : List Command) where
-  -- it heard the event and looked
+  -- it heard the event, went on and looked
   heard_in : (made : Terms) (stage : Stage) (seen : Sight) (looked : Wanted) (between : Stream) → IsIn made before stage seen → LooksAt made before looked stage seen →
-      Hears before between event → LooksOnce between after moment looked out longer → (sent : List ReadResponse) → IsReady before.at before.requests before.side looked stage seen sent →
-      LookedIn made between after stage (sight_with (side_of stage) seen event moment) sent out longer
+      Hears before between event → Advances between after moment looked out longer → (sent : SentOn) → IsReady before.at before.requests before.side looked stage seen sent →
+      AdvancedTo made after stage (sight_with (side_of stage) seen event moment) sent out longer
   heard_in made stage seen looked between is there heard once sent ready =
       let later : Sight = sight_with (side_of stage) seen event moment in
       let on = ready_on made seen event moment stage before.at before.requests before.side looked sent there.waits ready in
-      looked_in made between after moment looked out longer stage later sent (heard.terms ∙ is.terms) refl
+      advances_to made between after moment looked out longer stage later sent (heard.terms ∙ is.terms) refl
       (subst (λ a. IsReady a between.requests between.side looked stage later sent) (sym heard.at)
       (subst (λ r. IsReady before.at r between.side looked stage later sent) (sym heard.requests)
       (subst (λ s. IsReady before.at (requests_take event before.requests) s looked stage later sent) (sym heard.side) on)))
@@ -304,14 +309,15 @@ module _ (before after : Stream) (moment : ℕ) (event : Event) (out longer : Li
       let got = heard_in made place.stage seen looked between at.is_in there heard once there.sent there.ready in
       let same : sight_over place (prefix ++ now ∷ []) ≡ later = sight_more place prefix now (open_still made place.stage seen there.waits) at.within in
       let same_more : got.more ≡ more = same_tail out got.more more (sym got.grown ∙ grown) in
-      let owes = subst (λ l. sent_on place.stage there.sent ++ l ≡ Owed made place (prefix ++ now ∷ []) later same (pass place.stage later) (sight_past place.stage later)) same_more got.owes in
       onward there.waits (at_walked made place (prefix ++ now ∷ []) later same after (within_more place prefix now at.within) got.is_in)
-      (λ view. ap (λ l. seen_of view l ++ seen_of view more) there.gave ∙ gives_walked made place (prefix ++ now ∷ []) later same view (sent_on place.stage there.sent) more owes)
+      (λ view. ap (λ l. seen_of view l ++ seen_of view more) there.gave
+      ∙ gives_walked made place (prefix ++ now ∷ []) later same view (sent_on place.stage there.sent) more
+      (subst (λ l. seen_of view (sent_on place.stage there.sent ++ l) ≡ seen_of view (owed_in made place.stage later)) same_more (got.owes view)))
 
   few_takes : (made : Terms) (ahead : ℕ) (more : List Command) (place : Standing) (prefix : List (Timed Event)) → IsFew ahead place.stage → ahead ≤ 1 →
       Takes (http_chain sequence made) (IsAt made) after moment event more place prefix → Takes (http_chain sequence made) (IsInSequence made ahead) after moment event more place prefix
   few_takes made ahead more place prefix few small (onward is at gives) =
-      onward is (record { is_at = at; few = pass_few ahead place.stage (sight_over place (prefix ++ record { moment = moment; value = event } ∷ [])) few; small = small }) gives
+      onward is (record { is_at = at; few = pass_few ahead made place.stage (sight_over place (prefix ++ record { moment = moment; value = event } ∷ [])) few; small = small }) gives
   few_takes made ahead more place prefix few small (past_end owed is at gives) = past_end owed is (record { is_at = at; few = few; small = small }) gives
 
   -- wherever it stood
@@ -336,7 +342,7 @@ module _ (before after : Stream) (moment : ℕ) (event : Event) (out longer : Li
 
 -- its readers may hear the event, wherever it stood
 pub hears_anywhere : (state : Stream) (event : Event) → Somewhere state → (looked : Wanted) → state.phase ≡ phase.Ready looked → is_last (phase.Ready looked) ≡ false →
-    MayHear event state.requests state.side looked
+    MayHear state.at event state.requests state.side looked
 hears_anywhere state event (made, ahead, place, prefix, stands) looked live goes =
     let seen : Sight = sight_over place prefix in
     let there = looks_at made state place.stage seen looked live goes stands.is_at.is_in in
@@ -344,11 +350,18 @@ hears_anywhere state event (made, ahead, place, prefix, stands) looked live goes
     record {
       agrees = more.agrees;
       open_still = more.open_still;
-      looks = may_look state.at (requests_take event state.requests) (side_takes event state.side) looked place.stage (sight_with (side_of place.stage) seen event 0) there.sent
+      advances = may_advance ahead state.at (requests_take event state.requests) (side_takes event state.side) looked place.stage (sight_with (side_of place.stage) seen event 0) there.sent stands.few
           (ready_on made seen event 0 place.stage state.at state.requests state.side looked there.sent there.waits there.ready);
     }
 
 -- ---- an answer
+
+-- the next flow is one of a few as well
+few_onward : (ahead : ℕ) (stage : Stage) → IsFew ahead stage → IsFew ahead (sequence stage)
+few_onward ahead (idle at) is = is
+few_onward ahead (busy at flow doing) is = is
+few_onward ahead (next at) is = is
+few_onward ahead over is = is
 
 -- something is awaited where it may be answered
 pub is_awaited : (here : Option Ask) (reply : Reply) → MayAnswer here reply → IsSome here
@@ -375,7 +388,8 @@ shows_for terms (idle at) seen side found is_asked is = parked_shows at.parked s
 shows_for terms (busy at flow (request_body given)) seen side found is_asked is = parked_shows at.parked seen side is
 shows_for terms (busy at flow connection) seen side found is_asked is = parked_shows at.parked seen side is
 shows_for terms (busy at flow (response_head server how)) seen side found is_asked is = final_shows flow.request server seen side is
-shows_for terms (busy at flow (response_body server how)) seen side found is_asked is = kept_shows server _ seen side is
+shows_for terms (busy at flow (response_body server how most)) seen side found is_asked is = kept_shows server _ seen side is
+shows_for terms (busy at flow (coming_down server how)) seen side found is_asked is = absurd (let no : None ≡ Some found = is_asked in cc)
 shows_for terms (busy at flow (upgraded server)) seen side found is_asked is = parked_shows at.parked seen side is
 shows_for terms (busy at flow given_head) seen side found is_asked is = parked_shows at.parked seen side is
 shows_for terms (busy at flow given_body) seen side found is_asked is = parked_shows at.parked seen side is
@@ -412,44 +426,47 @@ module _ (before : Stream) (moment : ℕ) (reply : Reply) (found : Asked) (live 
       is_closed = sym place_is.client;
     }
 
-    turn_is : asked_turn before.terms.place before.at found seen (used_in before.side) before.client_closed answer ≡ turn made stage seen answer
+    turn_is : asked_turn before.terms before.at found seen (used_in before.side) before.client_closed answer ≡ turn made stage seen answer
     turn_is =
-        ap (λ (t : Terms). asked_turn t.place before.at found seen (used_in before.side) before.client_closed answer) is.terms
-        ∙ (ap (λ a. asked_turn made.place a found seen (used_in before.side) before.client_closed answer) place_is.is_here
-        ∙ (ap (λ u. asked_turn made.place (place_of stage) found seen u before.client_closed answer) (sym (shows_for made stage seen before.side found asking.2.asks asking.2.has_side))
-        ∙ (ap (λ c. asked_turn made.place (place_of stage) found seen (used_of stage seen) c answer) place_is.client ∙ sym (turn_asked made seen answer stage found asking.2.asks))))
+        ap (λ (t : Terms). asked_turn t before.at found seen (used_in before.side) before.client_closed answer) is.terms
+        ∙ (ap (λ a. asked_turn made a found seen (used_in before.side) before.client_closed answer) place_is.is_here
+        ∙ (ap (λ u. asked_turn made (place_of stage) found seen u before.client_closed answer) (sym (shows_for made stage seen before.side found asking.2.asks asking.2.has_side))
+        ∙ (ap (λ c. asked_turn made (place_of stage) found seen (used_of stage seen) c answer) place_is.client ∙ sym (turn_asked made seen answer stage found asking.2.asks))))
 
     -- where a turn led
     pub turns_in : (between : Stream) (looked : Wanted) (out given : List Command) → TurnsTo before between moment reply found looked out given →
         (given ≡ out ++ (turn made stage seen answer).owed) × Turned to sees between.at between.requests between.side looked between.client_closed
     turns_in between looked out given call =
         let leads : stage_of between.at looked ≡ to = call.leads seen shows ∙ ap (λ (t : Turn Stage Command). sequence t.stage) turn_is in
-        let there = turned made stage seen answer before.requests before.side found between.at looked between.client_closed asking.2 leads call.content (call.client ∙ place_is.client) in (
+        let there = turned made stage seen answer before.requests before.side found between.at looked between.client_closed asking.2 leads call.content call.held (call.client ∙ place_is.client) in (
           call.gives seen shows ∙ ap (λ (t : Turn Stage Command). out ++ t.owed) turn_is,
           subst (λ r. Turned to sees between.at r between.side looked between.client_closed) (sym call.requests)
               (subst (λ s. Turned to sees between.at (requests_behind (stage_of between.at looked) before.requests) s looked between.client_closed) (sym call.side) there),
         )
 
-    -- it may look there
-    pub turned_looks : (between : Stream) (looked : Wanted) (out given : List Command) → TurnsTo before between moment reply found looked out given → MayLook looked between.requests between.side
-    turned_looks between looked out given call =
-        let there = (turns_in between looked out given call).1 in may_look between.at between.requests between.side looked to sees [] there.is_ready
+    -- it may go on there, and look
+    pub turned_advances : (ahead : ℕ) → IsFew ahead stage → (between : Stream) (looked : Wanted) (out given : List Command) → TurnsTo before between moment reply found looked out given →
+        MayAdvance between.at between.requests between.side looked
+    turned_advances ahead few between looked out given call =
+        let there = (turns_in between looked out given call).1 in
+        let few_there = few_onward ahead (turn made stage seen answer).stage (turn_few ahead made stage seen answer asking.0 asking.1 few) in
+        may_advance ahead between.at between.requests between.side looked to sees none_sent few_there there.is_ready
 
     -- and where it looked then
     record AnsweredIn (after : Stream) (out longer : List Command) : Type 0 where
       more : List Command
       grown : longer ≡ out ++ ((turn made stage seen answer).owed ++ more)
-      owes : more ≡ so_far (pass to sees) (sight_past to sees) ++ found_with (behind (pass to sees) (sight_past to sees)) (look made (pass to sees) (sight_past to sees))
-      is_in : IsIn made after (pass to sees) (sight_past to sees)
+      owes : (view : View) → seen_of view more ≡ seen_of view (owed_in made to sees)
+      is_in : IsIn made after (passed_to to sees) (sight_past to sees)
 
     answered_in : (after : Stream) (out longer : List Command) → Answers before after moment reply found out longer → AnsweredIn after out longer
     answered_in after out longer call =
         let (owes, there) = turns_in call.between call.looked out call.given call.turns in
-        let got = looked_in made call.between after moment call.looked call.given longer to sees [] (call.turns.terms ∙ is.terms) refl there.is_ready there.place call.looks in
+        let got = advances_to made call.between after moment call.looked call.given longer to sees none_sent (call.turns.terms ∙ is.terms) refl there.is_ready there.place call.advances in
         record {
           more = got.more;
           grown = got.grown ∙ (ap (λ l. l ++ got.more) owes ∙ append_assoc out (turn made stage seen answer).owed got.more);
-          owes = ap (λ l. l ++ got.more) (sym there.none_sent) ∙ got.owes;
+          owes = λ view. ap (λ l. seen_of view (l ++ got.more)) (sym there.sent_none) ∙ got.owes view;
           is_in = got.is_in;
         }
 
@@ -473,7 +490,7 @@ module _ (before : Stream) (moment : ℕ) (reply : Reply) (found : Asked) (live 
           asked = here.1;
           place = at_walked made stood prefix later same after within got.is_in;
           gives = λ view. ap (seen_of view) parts ∙ (seen_append view owed got.more
-              ∙ (ap (λ l. seen_of view owed ++ l) (gives_walked made stood prefix later same view [] got.more got.owes)
+              ∙ (ap (λ l. seen_of view owed ++ l) (gives_walked made stood prefix later same view [] got.more (got.owes view))
               ∙ sym (seen_append view owed (owed_over (http_chain sequence made) stood prefix))));
         }
 
@@ -514,16 +531,17 @@ module _ (before : Stream) (moment : ℕ) (reply : Reply) (found : Asked) (live 
         let added = resume_adds made place prefix at.is_at in
         resumes_left made before after moment reply added.0 place prefix at.is_at (resumes made place prefix added.0 added.1 at.is_at)
 
-  -- wherever this answer leads, it may look there
+  -- wherever this answer leads, it may go on from there
   pub may_turn : Somewhere before → MayTurn before moment reply found
-  may_turn (made, ahead, place, prefix, at) between looked out given call = turned_looks made place.stage (sight_over place prefix) at.is_at.is_in between looked out given call
+  may_turn (made, ahead, place, prefix, at) between looked out given call = turned_advances made place.stage (sight_over place prefix) at.is_at.is_in ahead at.few between looked out given call
 
 few_at : (ahead : ℕ) (stage : Stage) (found : Asked) (terms : Terms) (seen : Sight) → asked_in terms stage seen ≡ Some found → ahead ≤ 1 → IsFew ahead stage → IsCounted 2 (place_of stage)
 few_at ahead (idle at) found terms seen is_asked small is = let d = is.dials in record { few = is.few; dials = omega arith }
 few_at ahead (busy at flow (request_body given)) found terms seen is_asked small is = let d = is.dials in record { few = is.few; dials = omega arith }
 few_at ahead (busy at flow connection) found terms seen is_asked small is = let d = is.dials in record { few = is.few; dials = omega arith }
 few_at ahead (busy at flow (response_head server how)) found terms seen is_asked small is = let d = is.dials in record { few = is.few; dials = omega arith }
-few_at ahead (busy at flow (response_body server how)) found terms seen is_asked small is = let d = is.dials in record { few = is.few; dials = omega arith }
+few_at ahead (busy at flow (response_body server how most)) found terms seen is_asked small is = let d = is.dials in record { few = is.few; dials = omega arith }
+few_at ahead (busy at flow (coming_down server how)) found terms seen is_asked small is = absurd (let no : None ≡ Some found = is_asked in cc)
 few_at ahead (busy at flow (upgraded server)) found terms seen is_asked small is = let d = is.dials in record { few = is.few; dials = omega arith }
 few_at ahead (busy at flow given_head) found terms seen is_asked small is = let d = is.dials in record { few = is.few; dials = omega arith }
 few_at ahead (busy at flow given_body) found terms seen is_asked small is = let d = is.dials in record { few = is.few; dials = omega arith }
@@ -553,17 +571,17 @@ look_as terms at used there moment now closed shut looked old new side later out
 -- a turn: what was asked is answered, and the readers follow
 pub turns_by : {E : Type 0} (result : Result Wanted E) (before mid after : Stream) (moment now : ℕ) (reply : Reply) (found : Asked) (ready : Wanted) (used : Used) (closed dialled : Bool) (out longer : List Command) →
     now ≡ moment → closed ≡ before.client_closed → used ≡ used_in before.side → dialled ≡ is_dial found →
-    ((seen : Sight) → Shows before.at found used closed seen → longer ≡ out ++ (asked_turn before.terms.place before.at found seen used closed (record { moment = now; value = reply })).owed) →
-    ((seen : Sight) → Shows before.at found used closed seen → stage_of mid.at ready ≡ sequence (asked_turn before.terms.place before.at found seen used closed (record { moment = now; value = reply })).stage) →
-    content_in ready ≡ [] →
+    ((seen : Sight) → Shows before.at found used closed seen → longer ≡ out ++ (asked_turn before.terms before.at found seen used closed (record { moment = now; value = reply })).owed) →
+    ((seen : Sight) → Shows before.at found used closed seen → stage_of mid.at ready ≡ sequence (asked_turn before.terms before.at found seen used closed (record { moment = now; value = reply })).stage) →
+    content_in ready ≡ [] → FirstHeld found ready →
     IfOk result (λ leads_to. leads_to ≡ ready) → OnOk result (after.terms ≡ before.terms) → OnOk result (after.at ≡ mid.at) → OnOk result (after.client_closed ≡ before.client_closed) →
     OnOk result (after.requests ≡ requests_behind (stage_of mid.at ready) before.requests) → OnOk result (after.side ≡ side_behind dialled (stage_of mid.at ready) before.side) →
     IfOk result (λ leads_to. TurnsTo before after moment reply found leads_to out longer)
-turns_by (Ok there) before mid after moment now reply found ready used closed dialled out longer at_now shut uses dials gives leads content same terms at client requests side =
+turns_by (Ok there) before mid after moment now reply found ready used closed dialled out longer at_now shut uses dials gives leads content held same terms at client requests side =
     let stage : stage_of after.at there ≡ stage_of mid.at ready = ap (λ a. stage_of a there) at ∙ ap (stage_of mid.at) same in
-    let Gives : Used → Bool → ℕ → Type 0 = λ u b m. (seen : Sight) → Shows before.at found u b seen → longer ≡ out ++ (asked_turn before.terms.place before.at found seen u b (record { moment = m; value = reply })).owed in
+    let Gives : Used → Bool → ℕ → Type 0 = λ u b m. (seen : Sight) → Shows before.at found u b seen → longer ≡ out ++ (asked_turn before.terms before.at found seen u b (record { moment = m; value = reply })).owed in
     let Leads : Used → Bool → ℕ → Type 0 = λ u b m. (seen : Sight) → Shows before.at found u b seen →
-    stage_of mid.at ready ≡ sequence (asked_turn before.terms.place before.at found seen u b (record { moment = m; value = reply })).stage in
+    stage_of mid.at ready ≡ sequence (asked_turn before.terms before.at found seen u b (record { moment = m; value = reply })).stage in
     let given : Gives (used_in before.side) before.client_closed moment =
     subst (λ u. Gives u before.client_closed moment) uses (subst (λ b. Gives used b moment) shut (subst (λ m. Gives used closed m) at_now gives)) in
     let led : Leads (used_in before.side) before.client_closed moment =
@@ -574,10 +592,11 @@ turns_by (Ok there) before mid after moment now reply found ready used closed di
       gives = given;
       leads = λ seen shows. stage ∙ led seen shows;
       content = ap content_in same ∙ content;
+      held = subst (FirstHeld found) (sym same) held;
       requests = requests ∙ ap (λ s. requests_behind s before.requests) (sym stage);
       side = side ∙ (ap (λ d. side_behind d (stage_of mid.at ready) before.side) dials ∙ ap (λ s. side_behind (is_dial found) s before.side) (sym stage));
     }
-turns_by (Err e) before mid after moment now reply found ready used closed dialled out longer at_now shut uses dials gives leads content same terms at client requests side = tt
+turns_by (Err e) before mid after moment now reply found ready used closed dialled out longer at_now shut uses dials gives leads content held same terms at client requests side = tt
 
 -- the event, from the fields that heard it
 pub heard_by : {T E : Type 0} (result : Result T E) (before : Stream) (event : Event) (requests : State) (closed : Bool) (side : Option Link) →
@@ -590,22 +609,24 @@ heard_by (Err e) before event requests closed side one two three = tt
 pub takes_heard : (before between : Stream) (taken : Phase) (event : Event) → Hears (record before { phase = taken }) between event → Hears before between event
 takes_heard before between taken event is = record { terms = is.terms; at = is.at; client = is.client; requests = is.requests; side = is.side }
 
-pub looks_heard : (before between : Stream) (taken : Phase) (event : Event) (looked : Wanted) → MayHear event before.requests before.side looked → Hears (record before { phase = taken }) between event →
-    MayLook looked between.requests between.side
-looks_heard before between taken event looked may is =
-    subst (λ r. MayLook looked r between.side) (sym is.requests) (subst (λ s. MayLook looked (requests_take event before.requests) s) (sym is.side) may.looks)
+pub advances_heard : (before between : Stream) (taken : Phase) (event : Event) (looked : Wanted) → MayHear before.at event before.requests before.side looked → Hears (record before { phase = taken }) between event →
+    MayAdvance between.at between.requests between.side looked
+advances_heard before between taken event looked may is =
+    subst (λ a. MayAdvance a between.requests between.side looked) (sym is.at)
+    (subst (λ r. MayAdvance before.at r between.side looked) (sym is.requests)
+    (subst (λ s. MayAdvance before.at (requests_take event before.requests) s looked) (sym is.side) may.advances))
 
 pub turn_taken : (before between : Stream) (taken : Phase) (moment : ℕ) (reply : Reply) (found : Asked) (looked : Wanted) (out longer : List Command) →
     TurnsTo (record before { phase = taken }) between moment reply found looked out longer → TurnsTo before between moment reply found looked out longer
 turn_taken before between taken moment reply found looked out longer is =
-    record { terms = is.terms; client = is.client; gives = is.gives; leads = is.leads; content = is.content; requests = is.requests; side = is.side }
+    record { terms = is.terms; client = is.client; gives = is.gives; leads = is.leads; content = is.content; held = is.held; requests = is.requests; side = is.side }
 
 pub taken_answer : (before : Stream) (taken : Phase) (between after : Stream) (moment : ℕ) (reply : Reply) (found : Asked) (looked : Wanted) (out given longer : List Command) →
-    TurnsTo (record before { phase = taken }) between moment reply found looked out given → LooksOnce between after moment looked given longer → Answers before after moment reply found out longer
+    TurnsTo (record before { phase = taken }) between moment reply found looked out given → Advances between after moment looked given longer → Answers before after moment reply found out longer
 taken_answer before taken between after moment reply found looked out given longer call once =
-    record { between = between; looked = looked; given = given; turns = turn_taken before between taken moment reply found looked out given call; looks = once }
+    record { between = between; looked = looked; given = given; turns = turn_taken before between taken moment reply found looked out given call; advances = once }
 
 pub heard_event : (before between after : Stream) (taken : Phase) (moment : ℕ) (event : Event) (looked : Wanted) (out longer : List Command) → before.phase ≡ phase.Ready looked → is_last before.phase ≡ false →
-    Hears (record before { phase = taken }) between event → LooksOnce between after moment looked out longer → TakesEvent before after moment event out longer
+    Hears (record before { phase = taken }) between event → Advances between after moment looked out longer → TakesEvent before after moment event out longer
 heard_event before between after taken moment event looked out longer live goes heard once =
     hears looked between live (ap is_last (sym live) ∙ goes) (takes_heard before between taken event heard) once

@@ -17,11 +17,11 @@ use Rattle.px_exchange.specs.Requests.{is_head}
 use Rattle.px_exchange.specs.declared.terms.Terms.{Terms}
 use Rattle.px_chain.specs.Chain.{look}
 use Rattle.px_chain.specs.Sights.{Sight, sight_with}
-use Rattle.px_chain.specs.Stages.{At, Parked, Stage, busy, connection, given_body, given_head, idle, next, over, request_body, response_body, response_head, side_in, side_of, side_parked, upgraded}
+use Rattle.px_chain.specs.Stages.{At, Parked, Stage, busy, coming_down, connection, given_body, given_head, idle, next, over, request_body, response_body, response_head, side_in, side_of, side_parked, upgraded}
 use Rattle.px_stream.specs.declared.link.Link.{Link}
 use Rattle.px_stream.specs.declared.phase.Wanted.{Wanted}
 use Rattle.px_stream.specs.Heard.{feeds, link_hears, link_closes, requests_take, side_takes, closes_client}
-use Rattle.px_stream.specs.Stands.{Passes, ReadsLink, IsLink, IsOpen, Keeps, HasRequest, HasSide, IsReady, IsPlaced, HasPlace, ReadsReturn, content_in, parked_link, unread_link}
+use Rattle.px_stream.specs.Stands.{Passes, ReadsLink, IsLink, IsOpen, Keeps, HasRequest, HasSide, IsReady, IsPlaced, HasPlace, ReadsDown, ReadsReturn, SentOn, held_in, sent_in, content_in, parked_link, unread_link}
 use Rattle.px_stream.proofs.ReadLemmas.{fed_on, shut_on, shuts}
 
 -- what an open side hears
@@ -228,39 +228,52 @@ open_took : (event : Event) (P Q : Link → Type 0) → ((link : Link) → P lin
 open_took event P Q on None is = absurd is
 open_took event P Q on (Some link) is = subst (IsOpen Q) (sym (side_took event link)) (on link is)
 
-module _ (made : Terms) (seen : Sight) (event : Event) (now : ℕ) (requests : State) (side : Option Link) (sent : List ResponseHead) (content : List ℕ) where
+module _ (made : Terms) (seen : Sight) (event : Event) (now : ℕ) (requests : State) (side : Option Link) (sent : SentOn) (looked : Wanted) where
   -- what has ended finds something
   ended : (shut : Bool) → or_leaves shut [] (Ends []) ≡ NotYet → ⊥
   ended true is = let no : Ends [] ≡ NotYet = is in cc
   ended false is = let no : Ends [] ≡ NotYet = is in cc
 
-  request_on : (stage : Stage) → HasRequest stage seen content requests → HasRequest stage (sight_with (side_of stage) seen event now) content (requests_take event requests)
+  request_on : (stage : Stage) → HasRequest stage seen (content_in looked) requests → HasRequest stage (sight_with (side_of stage) seen event now) (content_in looked) (requests_take event requests)
   request_on (idle at) is = requests_took [] request seen.client requests event is
   request_on (busy at flow (request_body given)) is =
       record { head = is.head; marks = is.marks; is_content = is.is_content; reads = requests_took (asks is.head ∷ is.marks) request seen.client requests event is.reads }
   request_on (busy at flow connection) is = keeps_took seen.client requests event is
   request_on (busy at flow (response_head server how)) is = keeps_took seen.client requests event is
-  request_on (busy at flow (response_body server how)) is = keeps_took seen.client requests event is
+  request_on (busy at flow (response_body server how most)) is = keeps_took seen.client requests event is
+  request_on (busy at flow (coming_down server how)) is = keeps_took seen.client requests event is
   request_on (busy at flow (upgraded server)) is = keeps_took seen.client requests event is
   request_on (busy at flow given_head) is = keeps_took seen.client requests event is
   request_on (busy at flow given_body) is = keeps_took seen.client requests event is
   request_on (next at) is = absurd is
   request_on over is = tt
 
-  side_on : (stage : Stage) → look made stage seen ≡ NotYet → HasSide stage seen sent content side → HasSide stage (sight_with (side_of stage) seen event now) sent content (side_takes event side)
+  side_on : (stage : Stage) → look made stage seen ≡ NotYet → HasSide stage seen sent looked side → HasSide stage (sight_with (side_of stage) seen event now) sent looked (side_takes event side)
   side_on (idle at) waits is = parked_took at.parked seen event now side is
   side_on (busy at flow (request_body given)) waits is = parked_took at.parked seen event now side is
   side_on (busy at flow connection) waits is = parked_took at.parked seen event now side is
   side_on (busy at flow (response_head server how)) waits is =
-      open_took event (IsLink flow.request server seen sent []) (IsLink flow.request server (sight_with (Some server) seen event now) sent [])
-      (λ link has. link_on flow.request server seen event now sent [] link has) side is
-  side_on (busy at flow (response_body server how)) waits is =
-      open_took event (ReadsReturn flow.request server seen content) (ReadsReturn flow.request server (sight_with (Some server) seen event now) content)
+      open_took event (IsLink flow.request server seen sent.interim []) (IsLink flow.request server (sight_with (Some server) seen event now) sent.interim [])
+      (λ link has. link_on flow.request server seen event now sent.interim [] link has) side is
+  side_on (busy at flow (response_body server how most)) waits is =
+      open_took event (ReadsReturn flow server most seen (content_in looked) (held_in looked)) (ReadsReturn flow server most (sight_with (Some server) seen event now) (content_in looked) (held_in looked))
       (λ link has. record {
         sent = has.sent;
         head = has.head;
         marks = has.marks;
         is_content = has.is_content;
+        holds = has.holds;
+        final = has.final;
+        is_link = link_on flow.request server seen event now has.sent (answers has.head ∷ has.marks) link has.is_link;
+      }) side is
+  side_on (busy at flow (coming_down server how)) waits is =
+      open_took event (ReadsDown flow server seen (sent_in looked) sent.text) (ReadsDown flow server (sight_with (Some server) seen event now) (sent_in looked) sent.text)
+      (λ link has. record {
+        sent = has.sent;
+        head = has.head;
+        marks = has.marks;
+        is_text = has.is_text;
+        streamed = has.streamed;
         final = has.final;
         is_link = link_on flow.request server seen event now has.sent (answers has.head ∷ has.marks) link has.is_link;
       }) side is
@@ -271,13 +284,13 @@ module _ (made : Terms) (seen : Sight) (event : Event) (now : ℕ) (requests : S
   side_on over waits is = tt
 
 -- The flow stands where it stood, if nothing was found, and its readers have heard the event.
-pub ready_on : (made : Terms) (seen : Sight) (event : Event) (now : ℕ) (stage : Stage) (at : At) (requests : State) (side : Option Link) (looked : Wanted) (sent : List ResponseHead) →
+pub ready_on : (made : Terms) (seen : Sight) (event : Event) (now : ℕ) (stage : Stage) (at : At) (requests : State) (side : Option Link) (looked : Wanted) (sent : SentOn) →
     look made stage seen ≡ NotYet → IsReady at requests side looked stage seen sent →
     IsReady at (requests_take event requests) (side_takes event side) looked stage (sight_with (side_of stage) seen event now) sent
 ready_on made seen event now stage at requests side looked sent waits is = record {
   is_stage = is.is_stage;
-  request = request_on made seen event now requests side sent (content_in looked) stage is.request;
-  has_side = side_on made seen event now requests side sent (content_in looked) stage waits is.has_side;
+  request = request_on made seen event now requests side sent looked stage is.request;
+  has_side = side_on made seen event now requests side sent looked stage waits is.has_side;
 }
 
 closes_by_event : (event : Event) (was : Bool) → closes_client event was ≡ (was || closes Client event)

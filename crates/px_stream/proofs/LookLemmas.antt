@@ -1,5 +1,6 @@
 -- One look, whatever is looked for: what is given is what the stage owes that is passed to, and the flow is there.
 use Rattle.std.proofs.Common.{◌≡◌, ℕ, ◌+◌, Bool, true, false, List, [], ◌∷◌, ◌++◌, drop, Option, Some, None, refl, ap, sym, ◌∙◌, subst, append_assoc}
+use Rattle.std.specs.Prelude.{⊤}
 use Rattle.std.proofs.lemmas.List.{drop-drop}
 use Rattle.px_message.specs.declared.fault.Fault.{Fault}
 use Rattle.px_message.specs.declared.fault.Fault.TheVariants.{BadResponse}
@@ -8,6 +9,8 @@ use Rattle.px_message.specs.declared.response.Response.{Response}
 use Rattle.px_event.specs.declared.ask.Hook.TheVariants.{RequestHead, RequestBody, ResponseHead, ResponseBody}
 use Rattle.px_event.specs.declared.command.Command.{Command}
 use Rattle.px_event.specs.declared.command.Command.TheVariants as commands
+use Rattle.px_event.specs.declared.side.Side.TheVariants.{Client}
+use Rattle.px_event.specs.View.{seen_of}
 use Rattle.px_event.specs.Chain.{Look, NotYet, Asks, Ends, found, found_with}
 use Rattle.px_read.specs.Heads.{is_interim}
 use Rattle.px_read.specs.Items.{Body, Item, missing, part, complete, bad_head, bad_body, body_of}
@@ -22,17 +25,20 @@ use Rattle.px_exchange.specs.declared.body.Progress.{Progress}
 use Rattle.px_exchange.specs.declared.body.Progress.TheVariants as progress
 use Rattle.px_exchange.specs.declared.ending.Used.{Used}
 use Rattle.px_exchange.specs.declared.terms.Terms.{Terms}
-use Rattle.px_exchange.specs.Bodies.{content_of}
+use Rattle.px_exchange.specs.Bodies.{HasRead, content_of}
+use Rattle.px_write.specs.Error.{fault_message}
+use Rattle.px_parts.specs.Texts.{marks_text}
 use Rattle.px_exchange.specs.Endings.{closed_message, ends_by_fault, ends_early, refuses, shut_server, without_response}
 use Rattle.px_exchange.specs.Finds.{is_relayed, look_answer, look_answer_head, look_head, look_judged, or_leaves}
 use Rattle.px_exchange.specs.Flows.{ask_of, response_of, with_answer, with_body, with_returned}
 use Rattle.px_exchange.specs.Places.{dialled_for}
 use Rattle.px_exchange.specs.Requests.{expects, flow_of, is_head, is_http11, judged}
 use Rattle.px_exchange.specs.Texts.{interim_commands, sends_on}
-use Rattle.px_chain.specs.Chain.{Connect, behind, connect_in, given_at, leaving, look, pass, pass_body, sight_past, so_far}
+use Rattle.px_chain.specs.Chain.{Connect, behind, connect_in, given_at, leaving, look, pass, pass_body, pass_came, pass_kept, past_came, past_kept, sight_past, so_far}
 use Rattle.px_chain.specs.Sights.{Sight, answers_in, left_by, request_in, server_in, server_left, server_parked}
-use Rattle.px_chain.specs.Stages.{At, Parked, Stage, all_sent, busy, connection, given_body, given_head, idle, over, request_body, response_body, response_head, upgraded}
+use Rattle.px_chain.specs.Stages.{At, Parked, Stage, all_sent, busy, coming_down, connection, given_body, given_head, idle, over, request_body, response_body, response_head, upgraded}
 use Rattle.px_chain.proofs.ChainLaws.{commands_append}
+use Rattle.px_stream.specs.declared.coming.Held.{Held}
 use Rattle.px_stream.specs.declared.link.Link.{Link}
 use Rattle.px_stream.specs.declared.phase.Asked.TheVariants as asked
 use Rattle.px_stream.specs.declared.phase.Phase.{Phase}
@@ -41,11 +47,15 @@ use Rattle.px_stream.specs.declared.phase.Wanted.{Wanted}
 use Rattle.px_stream.specs.declared.phase.Wanted.TheVariants as ready
 use Rattle.px_stream.specs.declared.reading.FinalHead.{FinalHead}
 use Rattle.px_stream.specs.declared.reading.FinalHead.TheVariants as answer
-use Rattle.px_stream.specs.Looks.{AnswerFound, HeadRead, LookedAt, LookFound, ReturnFound, answer_gives, answer_phase, body_gives, body_phase, head_phase, is_over, judged_phase, relayed_phase, relays, returned_gives, returned_phase, unless_left, where_left}
+use Rattle.px_chain.specs.Coming.{Came, came_in, coming_text, streaming, streams_in}
+use Rattle.px_stream.specs.Comings.{sends_text}
+use Rattle.px_stream.specs.Passes.{HasNoMore, IsPassed}
+use Rattle.px_stream.specs.Looks.{AnswerFound, ComingFound, HeadRead, LookedAt, LookFound, ReturnFound, answer_gives, answer_phase, body_gives, body_phase, coming_gives, coming_phase, head_phase, is_over, judged_phase, relayed_phase, relays, returned_gives, returned_phase, unless_left, where_left}
 use Rattle.px_stream.specs.Responses.{AnswerCome}
-use Rattle.px_stream.specs.Stands.{HasPlace, HasRequest, HasSide, IsLastAt, IsLink, IsOpen, IsReady, Keeps, LinkKeeps, PhaseAt, ReadsFinal, ReadsReturn, answer_asked, body_asked, content_in, head_asked, judged_asked, parked_link, returned_asked, sent_on, stage_of, used_in}
+use Rattle.px_stream.specs.Stands.{HasPlace, HasRequest, HasSide, Holds, ReadsDown, SentOn, none_sent, IsLastAt, IsLink, IsOpen, IsReady, Keeps, LinkKeeps, PhaseAt, ReadsFinal, ReadsReturn, answer_asked, body_asked, content_in, head_asked, judged_asked, parked_link, returned_asked, sent_on, stage_of, used_in}
+use Rattle.px_stream.proofs.DownLemmas.{DownShown, down_shown, sends_all}
 use Rattle.px_stream.proofs.HeadLemmas.{connect_there, connect_whole, gives_at, gives_missing, look_at_head, no_connect, phase_at}
-use Rattle.px_stream.proofs.ShownLemmas.{BodyShown, ReturnShown, body_shown, return_shown}
+use Rattle.px_stream.proofs.ShownLemmas.{BodyShown, ReturnShown, body_shown, return_shown, shown_same}
 
 -- the server of the parked side
 pub parked_used : (parked : Option Parked) (seen : Sight) → used_in (parked_link parked seen) ≡ server_parked parked seen
@@ -63,7 +73,7 @@ module _ (terms : Terms) (at : At) (new : State) (later : Option Link) (out long
   at_look stage seen before more l is grown owes there =
       let P : Look Command → Type 0 = λ k. before ++ more ≡ so_far stage seen ++ found_with (behind stage seen) k in
       let Q : Look Command → Type 0 = λ k. PhaseAt k terms at new later is_now stage seen in
-      record { more = more; grown = grown; owes = subst P (sym is) owes; phase = subst Q (sym is) there }
+      record { more = more; grown = grown; owes = λ view. ap (seen_of view) (subst P (sym is) owes); phase = subst Q (sym is) there }
 
   -- ---- a request's head
 
@@ -126,7 +136,7 @@ module _ (terms : Terms) (at : At) (new : State) (later : Option Link) (out long
     no_head_by true shut is reads grown there =
         at_look (idle at) seen [] (shut_server used) (Ends (shut_server used)) (rw (shut, is) refl) grown refl (ready.Over, there, over_by (ap (connect_in terms.place) is))
     no_head_by false shut is reads grown there =
-        at_look (idle at) seen [] [] NotYet (rw (shut, is) refl) grown refl (ready.Idle, [], there, record { is_stage = refl; request = reads; has_side = parked }, refl)
+        at_look (idle at) seen [] [] NotYet (rw (shut, is) refl) grown refl (ready.Idle, none_sent, there, record { is_stage = refl; request = reads; has_side = parked }, refl)
 
     idle_by : (item : Item ReadRequest) → here ≡ item → HeadRead (connect_in terms.place here) here seen.client new →
         longer ≡ out ++ found (or_leaves seen.closed (shut_server used) (look_head terms at.flow here seen.now used seen.closed)) →
@@ -164,7 +174,7 @@ module _ (terms : Terms) (at : At) (new : State) (later : Option Link) (out long
       missing_by given head all content false shut is same reads grown there =
           at_look (busy at flow (request_body given)) seen [] [] NotYet (rw (shut, is) refl) grown refl (
             ready.RequestBody flow given content,
-            [],
+            none_sent,
             there,
             record { is_stage = refl; request = record { head = head; marks = all; is_content = same; reads = reads }; has_side = parked },
             refl,
@@ -201,7 +211,7 @@ module _ (terms : Terms) (at : At) (new : State) (later : Option Link) (out long
     PassedBy (Some response) item = Looked (pass_body at flow (Some response) item seen.now) (record seen { client = left_by item seen.client }) []
 
     passed_by : (given : Option Response) (item : Item ReadRequest) → request_in seen ≡ item → PassedBy given item →
-        Looked (pass (busy at flow (request_body given)) seen) (sight_past (busy at flow (request_body given)) seen) []
+        Looked (pass (busy at flow (request_body given)) seen).stage (sight_past (busy at flow (request_body given)) seen) []
     passed_by None item is looked = looked
     passed_by (Some response) item is looked = subst (PassedBy (Some response)) (sym is) looked
 
@@ -223,7 +233,7 @@ module _ (terms : Terms) (at : At) (new : State) (later : Option Link) (out long
 
     body_by : (given : Option Response) (head : ReadRequest) (content : List ℕ) (got : Progress) → BodyShown got head seen.client new content →
         longer ≡ out ++ body_gives flow given got content seen.now (server_parked at.parked seen) seen.closed → is_now ≡ body_phase flow given got content seen.now seen.closed →
-        Looked (pass (busy at flow (request_body given)) seen) (sight_past (busy at flow (request_body given)) seen) []
+        Looked (pass (busy at flow (request_body given)) seen).stage (sight_past (busy at flow (request_body given)) seen) []
     body_by given head content progress.Missing (all, is, same, reads) grown there =
         passed_by given (part head (body_of all)) is (stays_by given _ (part_stays given head (body_of all)) refl
         (missing_by seen parked flow given head all content seen.closed refl is same reads grown there))
@@ -262,7 +272,7 @@ module _ (terms : Terms) (at : At) (new : State) (later : Option Link) (out long
     module _ (sent more : List ReadResponse) (link : Link) (between : List Command) (open_is : later ≡ Some link) (grown : between ≡ out ++ sends_on (is_http11 flow.request.version) more)
         (all_come : (answers_in flow.request seen).interim ≡ sent ++ more) where
       -- what is given behind the interim responses is what is found
-      answered : (l : Look Command) → look terms heads seen ≡ l → longer ≡ between ++ found l → PhaseAt l terms at new later is_now heads seen → Looked heads seen (sent_on heads sent)
+      answered : (l : Look Command) → look terms heads seen ≡ l → longer ≡ between ++ found l → PhaseAt l terms at new later is_now heads seen → Looked heads seen (interim_commands flow.request sent)
       answered l is gives there =
           let told : List Command = interim_commands flow.request more in
           at_look heads seen (interim_commands flow.request sent) (told ++ found l) l is
@@ -279,7 +289,7 @@ module _ (terms : Terms) (at : At) (new : State) (later : Option Link) (out long
 
       relayed_by : (head : ReadResponse) (b : Bool) → is_relayed head.code ≡ b → head_in final ≡ Some head → is_interim head ≡ false →
           IsLink flow.request server seen (sent ++ more) (answers head ∷ []) link →
-          longer ≡ between ++ relays b flow head seen.now (server_in server seen) seen.closed → is_now ≡ relayed_phase b flow server head seen.now → Looked heads seen (sent_on heads sent)
+          longer ≡ between ++ relays b flow head seen.now (server_in server seen) seen.closed → is_now ≡ relayed_phase b flow server head seen.now → Looked heads seen (interim_commands flow.request sent)
       relayed_by head true relayed stands is_final is_link gives there =
           let told : Flow = with_answer flow (response_of head) seen.now in
           let asks_now : look_answer_head flow head seen.now (server_in server seen) seen.closed ≡ Asks (ask_of told ResponseHead) = rw relayed refl in
@@ -300,80 +310,122 @@ module _ (terms : Terms) (at : At) (new : State) (later : Option Link) (out long
 
       no_answer_by : (shut : Bool) → seen.closed ≡ shut → final ≡ missing → IsLink flow.request server seen (sent ++ more) [] link →
           longer ≡ between ++ where_left shut (ends_early flow closed_message seen.now (server_in server seen) true) → is_now ≡ unless_left shut (ready.ResponseHead flow server) →
-          Looked heads seen (sent_on heads sent)
+          Looked heads seen (interim_commands flow.request sent)
       no_answer_by true shut is is_link gives there =
           answered (Ends (ends_early flow closed_message seen.now (server_in server seen) true)) (rw (shut, is) refl) gives (ready.Over, there, refl)
       no_answer_by false shut is is_link gives there =
           answered NotYet (rw (shut, is) refl) gives (
             ready.ResponseHead flow server,
-            sent ++ more,
+            record { interim = sent ++ more; text = [] },
             there,
             record { is_stage = refl; request = keeps; has_side = subst (IsOpen (IsLink flow.request server seen (sent ++ more) [])) (sym open_is) is_link },
             ap (interim_commands flow.request) all_come,
           )
 
       bad_answer_by : (fault : Fault) → final ≡ bad_head fault → longer ≡ between ++ ends_by_fault flow fault seen.now (server_in server seen) seen.closed → is_now ≡ is_over →
-          Looked heads seen (sent_on heads sent)
+          Looked heads seen (interim_commands flow.request sent)
       bad_answer_by fault is gives there = answered (Ends (ends_by_fault flow fault seen.now (server_in server seen) seen.closed)) (rw is refl) gives (ready.Over, there, refl)
 
     answer_by : (sent more : List ReadResponse) (link : Link) (between : List Command) (got : FinalHead) → later ≡ Some link → between ≡ out ++ sends_on (is_http11 flow.request.version) more →
         AnswerCome got (is_head flow.request.method) server seen.server seen.shut (sent ++ more) link →
-        longer ≡ between ++ answer_gives flow got seen.now (server_in server seen) seen.closed → is_now ≡ answer_phase flow server got seen.now seen.closed → Looked heads seen (sent_on heads sent)
+        longer ≡ between ++ answer_gives flow got seen.now (server_in server seen) seen.closed → is_now ≡ answer_phase flow server got seen.now seen.closed → Looked heads seen (interim_commands flow.request sent)
     answer_by sent more link between (answer.Head head) open_is grown (is_link, stands, is_final, interim) gives there =
         relayed_by sent more link between open_is grown interim head (is_relayed head.code) refl stands is_final is_link gives there
     answer_by sent more link between (answer.Bad fault) open_is grown (is_link, is, interim) gives there = bad_answer_by sent more link between open_is grown interim fault is gives there
     answer_by sent more link between answer.Missing open_is grown (is_link, is, interim) gives there =
         no_answer_by sent more link between open_is grown interim seen.closed refl is is_link gives there
 
+    -- ---- the end of a response that is streamed
+
+    module _ (sends : Response) (text : List ℕ) (link : Link) (reads : ReadsDown flow server seen (Some sends) text link) (responses : State) (open_is : later ≡ Some (record link { responses = responses })) where
+      abbrev down : Stage
+      down = busy at flow (coming_down server all_sent)
+
+      -- what was sent is what it owes while it waits
+      down_sent : coming_text flow seen ≡ text → sends_text text ≡ so_far down seen
+      down_sent is =
+          ap sends_text reads.is_text
+          ∙ (sends_all sends (marks_text reads.marks) ∙ ap (λ t. commands.Send Client t ∷ []) (sym reads.is_text ∙ sym is))
+
+      no_end_by : (shut : Bool) (body : Body) → seen.closed ≡ shut → final ≡ part reads.head body → coming_text flow seen ≡ text → ReadsDown flow server seen (Some sends) text (record link { responses = responses }) →
+          longer ≡ out ++ where_left shut (ends_early flow closed_message seen.now (server_in server seen) true) → is_now ≡ unless_left shut (ready.ComingDown flow server sends) → Looked down seen (sends_text text)
+      no_end_by true body shut is same further grown there =
+          let owed : List Command = ends_early flow closed_message seen.now (server_in server seen) true in
+          at_look down seen (sends_text text) owed (Ends owed) (rw (shut, is) refl) grown (ap (λ l. l ++ owed) (down_sent same)) (ready.Over, there, refl)
+      no_end_by false body shut is same further grown there =
+          at_look down seen (sends_text text) [] NotYet (rw (shut, is) refl) grown (ap (λ l. l ++ []) (down_sent same)) (
+            ready.ComingDown flow server sends,
+            record { interim = []; text = text },
+            there,
+            record { is_stage = refl; request = keeps; has_side = subst (IsOpen (ReadsDown flow server seen (Some sends) text)) (sym open_is) further },
+            sym (down_sent same),
+          )
+
+      coming_by : (stop : Option Progress) → DownShown flow server seen sends text link reads stop (record link { responses = responses }) →
+          longer ≡ out ++ coming_gives flow stop seen.now (server_in server seen) seen.closed → is_now ≡ coming_phase flow server sends stop seen.closed → Looked down seen (sends_text text)
+      coming_by (Some progress.Missing) (is, same, further) grown there = no_end_by seen.closed (body_of (reads.marks ++ [])) refl is same further grown there
+      coming_by (Some (progress.Bad fault)) (is, same) grown there =
+          let owed : List Command = ends_early flow (fault_message fault) seen.now (server_in server seen) seen.closed in
+          at_look down seen (sends_text text) owed (Ends owed) (rw is refl) grown (ap (λ l. l ++ owed) (down_sent same)) (ready.Over, there, refl)
+      coming_by (Some (progress.Whole trailers)) none grown there = absurd none
+      coming_by None none grown there = absurd none
+
     -- ---- the response's body
 
-    abbrev bodies : Stage
-    bodies = busy at flow (response_body server all_sent)
+    module _ (most : Option ℕ) (held : Option Held) where
+      abbrev bodies : Stage
+      bodies = busy at flow (response_body server all_sent most)
 
-    module _ (sent : List ReadResponse) (head : ReadResponse) (is_final : is_interim head ≡ false) (old : Link) (responses : State) (is_open : later ≡ Some (record old { responses = responses }))
-        (number : old.server ≡ server) (shut_is : old.closed ≡ seen.shut) where
-      abbrev here_shown : Progress → List ℕ → Type 0
-      here_shown got content = ReturnShown (is_head flow.request.method) server seen.server seen.shut sent head is_final got old responses content
+      module _ (sent : List ReadResponse) (head : ReadResponse) (is_final : is_interim head ≡ false) (old : Link) (responses : State) (is_open : later ≡ Some (record old { responses = responses }))
+          (number : old.server ≡ server) (shut_is : old.closed ≡ seen.shut) where
+        abbrev here_shown : Progress → List ℕ → Type 0
+        here_shown got content = ReturnShown (is_head flow.request.method) server seen.server seen.shut sent head is_final got old responses content
 
-      no_return_by : (all : List Mark) (content : List ℕ) (shut : Bool) → seen.closed ≡ shut → final ≡ part head (body_of all) → content ≡ content_of all →
-          IsLink flow.request server seen sent (answers head ∷ all) (record old { responses = responses }) →
-          longer ≡ out ++ where_left shut (ends_early (without_response flow) closed_message seen.now (server_in server seen) true) →
-          is_now ≡ unless_left shut (ready.ResponseBody flow server content) → Looked bodies seen []
-      no_return_by all content true shut is same is_link grown there =
-          let owed : List Command = ends_early (without_response flow) closed_message seen.now (server_in server seen) true in
-          at_look bodies seen [] owed (Ends owed) (rw (shut, is) refl) grown refl (ready.Over, there, refl)
-      no_return_by all content false shut is same is_link grown there =
-          let read : ReadsReturn flow.request server seen content (record old { responses = responses }) =
-          record { sent = sent; head = head; marks = all; is_content = same; final = is_final; is_link = is_link } in
-          at_look bodies seen [] [] NotYet (rw (shut, is) refl) grown refl (
-            ready.ResponseBody flow server content,
-            [],
-            there,
-            record { is_stage = refl; request = keeps; has_side = subst (IsOpen (ReadsReturn flow.request server seen content)) (sym is_open) read },
-            refl,
-          )
+        no_return_by : (all : List Mark) (content : List ℕ) (shut : Bool) → seen.closed ≡ shut → final ≡ part head (body_of all) → content ≡ content_of all →
+            IsLink flow.request server seen sent (answers head ∷ all) (record old { responses = responses }) →
+            longer ≡ out ++ where_left shut (ends_early (without_response flow) closed_message seen.now (server_in server seen) true) →
+            is_now ≡ unless_left shut (ready.ResponseBody flow server most content held) → Holds flow most head all held → Looked bodies seen []
+        no_return_by all content true shut is same is_link grown there holds =
+            let owed : List Command = ends_early (without_response flow) closed_message seen.now (server_in server seen) true in
+            at_look bodies seen [] owed (Ends owed) (rw (shut, is) refl) grown refl (ready.Over, there, refl)
+        no_return_by all content false shut is same is_link grown there holds =
+            let read : ReadsReturn flow server most seen content held (record old { responses = responses }) =
+            record { sent = sent; head = head; marks = all; is_content = same; holds = holds; final = is_final; is_link = is_link } in
+            at_look bodies seen [] [] NotYet (rw (shut, is) refl) grown refl (
+              ready.ResponseBody flow server most content held,
+              none_sent,
+              there,
+              record { is_stage = refl; request = keeps; has_side = subst (IsOpen (ReadsReturn flow server most seen content held)) (sym is_open) read },
+              refl,
+            )
 
-      return_by : (got : Progress) (content : List ℕ) → here_shown got content →
-          longer ≡ out ++ returned_gives flow got content seen.now (server_in server seen) seen.closed → is_now ≡ returned_phase flow server got content seen.now seen.closed → Looked bodies seen []
-      return_by progress.Missing content (all, is, same, is_link) grown there = no_return_by all content seen.closed refl is same is_link grown there
-      return_by (progress.Bad fault) content (body, is) grown there =
-          let owed : List Command = ends_by_fault flow fault seen.now (server_in server seen) seen.closed in
-          at_look bodies seen [] owed (Ends owed) (rw is refl) grown refl (ready.Over, there, refl)
-      return_by (progress.Whole trailers) content (body, size, is, same, rest) grown there =
-          let told : Flow = with_returned flow body.content trailers seen.now in
-          let left : server_left bodies seen ≡ drop ((answers_in flow.request seen).used + size) seen.server =
-          ap (λ i. left_by i (drop (answers_in flow.request seen).used seen.server)) is ∙ drop-drop size (answers_in flow.request seen).used seen.server in
-          let kept : LinkKeeps server (server_left bodies seen) seen.shut (record old { responses = responses }) = record { server = number; closed = shut_is; rest = rest ∙ sym left } in
-          at_look bodies seen [] (ask_of told ResponseBody ∷ []) (Asks (ask_of told ResponseBody)) (rw is refl)
-          (grown ∙ ap (λ l. out ++ ask_of (with_returned flow l trailers seen.now) ResponseBody ∷ []) same) refl (
-            asked.ResponseBody told server,
-            there ∙ ap (λ l. phase.Asked (asked.ResponseBody (with_returned flow l trailers seen.now) server)) same,
-            record {
-              asks = ap (λ i. returned_asked flow server i seen.now) is;
-              request = keeps;
-              has_side = subst (IsOpen (LinkKeeps server (server_left bodies seen) seen.shut)) (sym is_open) kept;
-            },
-          )
+        -- what is held says what was read, where more is to come
+        abbrev pub StillHolds : (got : Progress) (content : List ℕ) → here_shown got content → Type 0
+        StillHolds progress.Missing content shown = Holds flow most head shown.0 held
+        StillHolds got content shown = ⊤
+
+        return_by : (got : Progress) (content : List ℕ) (shown : here_shown got content) →
+            longer ≡ out ++ returned_gives flow got content seen.now (server_in server seen) seen.closed → is_now ≡ returned_phase flow server most got content held seen.now seen.closed →
+            StillHolds got content shown → Looked bodies seen []
+        return_by progress.Missing content (all, is, same, is_link) grown there holds = no_return_by all content seen.closed refl is same is_link grown there holds
+        return_by (progress.Bad fault) content (body, is) grown there holds =
+            let owed : List Command = ends_by_fault flow fault seen.now (server_in server seen) seen.closed in
+            at_look bodies seen [] owed (Ends owed) (rw is refl) grown refl (ready.Over, there, refl)
+        return_by (progress.Whole trailers) content (body, size, is, same, rest) grown there holds =
+            let told : Flow = with_returned flow body.content trailers seen.now in
+            let left : server_left bodies seen ≡ drop ((answers_in flow.request seen).used + size) seen.server =
+            ap (λ i. left_by i (drop (answers_in flow.request seen).used seen.server)) is ∙ drop-drop size (answers_in flow.request seen).used seen.server in
+            let kept : LinkKeeps server (server_left bodies seen) seen.shut (record old { responses = responses }) = record { server = number; closed = shut_is; rest = rest ∙ sym left } in
+            at_look bodies seen [] (ask_of told ResponseBody ∷ []) (Asks (ask_of told ResponseBody)) (rw is refl)
+            (grown ∙ ap (λ l. out ++ ask_of (with_returned flow l trailers seen.now) ResponseBody ∷ []) same) refl (
+              asked.ResponseBody told server,
+              there ∙ ap (λ l. phase.Asked (asked.ResponseBody (with_returned flow l trailers seen.now) server)) same,
+              record {
+                asks = ap (λ i. returned_asked flow server i seen.now) is;
+                request = keeps;
+                has_side = subst (IsOpen (LinkKeeps server (server_left bodies seen) seen.shut)) (sym is_open) kept;
+              },
+            )
 
 -- ---- all stages
 
@@ -393,42 +445,75 @@ keeps_same : (bytes : List ℕ) (old new : State) → new ≡ old → Keeps byte
 keeps_same bytes old new same keeps = subst (Keeps bytes) (sym same) keeps
 
 -- One look, in the sight that the stage that is looked at sees.
-module _ (terms : Terms) (at : At) (seen : Sight) (old new : State) (side later : Option Link) (moment : ℕ) (closed : Bool) (out longer : List Command) (is_now : Phase) (sent : List ReadResponse) (now : moment ≡ seen.now) where
+module _ (terms : Terms) (at : At) (seen : Sight) (old new : State) (side later : Option Link) (moment : ℕ) (closed : Bool) (out longer : List Command) (is_now : Phase) (sent : SentOn) (now : moment ≡ seen.now) where
   -- where the stage is passed, and the flow is there
   abbrev pub Advanced : Stage → Type 0
-  Advanced stage = LookedAt terms at (pass stage seen) (sight_past stage seen) new later is_now (sent_on stage sent) out longer
+  Advanced stage = LookedAt terms at (pass stage seen).stage (sight_past stage seen) new later is_now (sent_on stage sent) out longer
 
   -- the server of an open side is that of the stage
   open_used : (server : ℕ) (link : Link) → link.server ≡ server → link.closed ≡ seen.shut → used_in (Some link) ≡ server_in server seen
   open_used server link one two = rw (one, two) refl
 
   answer_looked : (flow : Flow) (server : ℕ) (old_side new_side : Option Link) → new ≡ old → old_side ≡ side → new_side ≡ later → Keeps seen.client old → closed ≡ seen.closed →
-      IsOpen (IsLink flow.request server seen sent []) old_side → AnswerFound flow server old_side new_side moment (used_in old_side) closed out longer is_now →
+      IsOpen (IsLink flow.request server seen sent.interim []) old_side → AnswerFound flow server old_side new_side moment (used_in old_side) closed out longer is_now →
       Advanced (busy at flow (response_head server all_sent))
   answer_looked flow server None new_side same was is keeps shut is_open it = absurd is_open
   answer_looked flow server (Some link) None same was is keeps shut is_open it = absurd it.read
   answer_looked flow server (Some link) (Some further) same was is keeps shut is_open it =
-      let read = it.read (is_head flow.request.method) server seen.server seen.shut sent is_open in
+      let read = it.read (is_head flow.request.method) server seen.server seen.shut sent.interim is_open in
       let used : used_in (Some link) ≡ server_in server seen = open_used server link is_open.server is_open.closed in
-      answer_by terms at new later out longer is_now seen flow server (keeps_same seen.client old new same keeps) sent read.more further it.between it.got (sym is) read.grown read.come
+      answer_by terms at new later out longer is_now seen flow server (keeps_same seen.client old new same keeps) sent.interim read.more further it.between it.got (sym is) read.grown read.come
       (it.gives ∙ (ap (λ m. it.between ++ answer_gives flow it.got m (used_in (Some link)) closed) now
       ∙ (ap (λ u. it.between ++ answer_gives flow it.got seen.now u closed) used ∙ ap (λ c. it.between ++ answer_gives flow it.got seen.now (server_in server seen) c) shut)))
       (it.phase ∙ (ap (λ m. answer_phase flow server it.got m closed) now ∙ ap (λ c. answer_phase flow server it.got seen.now c) shut))
 
-  return_looked : (flow : Flow) (server : ℕ) (content : List ℕ) (old_side new_side : Option Link) → new ≡ old → new_side ≡ later → Keeps seen.client old → closed ≡ seen.closed →
-      IsOpen (ReadsReturn flow.request server seen content) old_side → ReturnFound flow server content old_side new_side moment (used_in old_side) closed out longer is_now →
-      Advanced (busy at flow (response_body server all_sent))
-  return_looked flow server content None new_side same is keeps shut is_open it = absurd is_open
-  return_looked flow server content (Some link) None same is keeps shut is_open it = absurd it.read
-  return_looked flow server content (Some link) (Some further) same is keeps shut is_open it =
+  -- What is held says what was read, since a look reads nothing more.
+  still_holds : (flow : Flow) (server : ℕ) (most : Option ℕ) (content body : List ℕ) (held : Option Held) (got : Progress) (link : Link) (responses : State) (link_is : later ≡ Some (record link { responses = responses }))
+      (read : ReadsReturn flow server most seen content held link) (come : HasRead got link.responses content responses body) → HasNoMore (ready.ResponseBody flow server most content held) (Some link) →
+      (keeps : Keeps seen.client new) →
+      StillHolds terms at new later out longer is_now seen flow server keeps most held read.sent read.head read.final link responses link_is read.is_link.server read.is_link.closed got body
+      (return_shown (is_head flow.request.method) server seen.server seen.shut read.sent read.head read.final got read.marks link responses content body read.is_link read.is_content come)
+  still_holds flow server most content body None progress.Missing link responses link_is read come no_more keeps = read.holds
+  still_holds flow server most content body (Some held) progress.Missing link responses link_is read come no_more keeps =
+      subst (λ l. Holds flow most read.head l (Some held))
+      (sym (shown_same (is_head flow.request.method) server seen.server seen.shut read.sent read.head read.final read.marks link responses content body read.is_link read.is_content come no_more)) read.holds
+  still_holds flow server most content body held (progress.Whole trailers) link responses link_is read come no_more keeps = tt
+  still_holds flow server most content body held (progress.Bad fault) link responses link_is read come no_more keeps = tt
+
+  return_looked : (flow : Flow) (server : ℕ) (most : Option ℕ) (content : List ℕ) (held : Option Held) (old_side new_side : Option Link) → new ≡ old → new_side ≡ later → Keeps seen.client old →
+      closed ≡ seen.closed → IsOpen (ReadsReturn flow server most seen content held) old_side → streams_in flow most seen ≡ false → HasNoMore (ready.ResponseBody flow server most content held) old_side →
+      ReturnFound flow server most content held old_side new_side moment (used_in old_side) closed out longer is_now → Advanced (busy at flow (response_body server all_sent most))
+  return_looked flow server most content held None new_side same is keeps shut is_open kept no_more it = absurd is_open
+  return_looked flow server most content held (Some link) None same is keeps shut is_open kept no_more it = absurd it.read
+  return_looked flow server most content held (Some link) (Some further) same is keeps shut is_open kept no_more it =
       let used : used_in (Some link) ≡ server_in server seen = open_used server link is_open.is_link.server is_open.is_link.closed in
       let shown = return_shown (is_head flow.request.method) server seen.server seen.shut is_open.sent is_open.head is_open.final it.got is_open.marks link further.responses content it.body
       is_open.is_link is_open.is_content it.read.read in
-      return_by terms at new later out longer is_now seen flow server (keeps_same seen.client old new same keeps) is_open.sent is_open.head is_open.final link further.responses
-      (sym is ∙ ap Some it.read.same) is_open.is_link.server is_open.is_link.closed it.got it.body shown
+      let P : Bool → Type 0 = λ b. LookedAt terms at (pass_kept b at flow server all_sent most seen).stage (past_kept b (came_in (streaming flow) seen) seen) new later is_now [] out longer in
+      let there : later ≡ Some (record link { responses = further.responses }) = sym is ∙ ap Some it.read.same in
+      subst P (sym kept)
+      (return_by terms at new later out longer is_now seen flow server (keeps_same seen.client old new same keeps) most held is_open.sent is_open.head is_open.final link further.responses
+      there is_open.is_link.server is_open.is_link.closed it.got it.body shown
       (it.gives ∙ (ap (λ m. out ++ returned_gives flow it.got it.body m (used_in (Some link)) closed) now
       ∙ (ap (λ u. out ++ returned_gives flow it.got it.body seen.now u closed) used ∙ ap (λ c. out ++ returned_gives flow it.got it.body seen.now (server_in server seen) c) shut)))
-      (it.phase ∙ (ap (λ m. returned_phase flow server it.got it.body m closed) now ∙ ap (λ c. returned_phase flow server it.got it.body seen.now c) shut))
+      (it.phase ∙ (ap (λ m. returned_phase flow server most it.got it.body held m closed) now ∙ ap (λ c. returned_phase flow server most it.got it.body held seen.now c) shut))
+      (still_holds flow server most content it.body held it.got link further.responses there is_open it.read.read no_more (keeps_same seen.client old new same keeps)))
+
+  -- Of a response that is streamed: a fault, or the client's close.
+  coming_looked : (flow : Flow) (server : ℕ) (is_sent : Response) (old_side new_side : Option Link) → new ≡ old → new_side ≡ later → Keeps seen.client old → closed ≡ seen.closed →
+      IsOpen (ReadsDown flow server seen (Some is_sent) sent.text) old_side → came_in flow seen ≡ None → HasNoMore (ready.ComingDown flow server is_sent) old_side →
+      ComingFound flow server is_sent old_side new_side moment (used_in old_side) closed out longer is_now → Advanced (busy at flow (coming_down server all_sent))
+  coming_looked flow server is_sent None new_side same is keeps shut is_open came no_more it = absurd is_open
+  coming_looked flow server is_sent (Some link) None same is keeps shut is_open came no_more it = absurd it.read
+  coming_looked flow server is_sent (Some link) (Some further) same is keeps shut is_open came no_more it =
+      let used : used_in (Some link) ≡ server_in server seen = open_used server link is_open.is_link.server is_open.is_link.closed in
+      let P : Option Came → Type 0 = λ c. LookedAt terms at (pass_came at flow server all_sent seen c).stage (past_came c seen) new later is_now (sends_text sent.text) out longer in
+      subst P (sym came)
+      (coming_by terms at new later out longer is_now seen flow server (keeps_same seen.client old new same keeps) is_sent sent.text link is_open further.responses (sym is ∙ ap Some it.read.same) it.stop
+      (down_shown flow server seen is_sent sent.text link is_open it.stop further.responses came no_more it.read.ends)
+      (it.gives ∙ (ap (λ m. out ++ coming_gives flow it.stop m (used_in (Some link)) closed) now
+      ∙ (ap (λ u. out ++ coming_gives flow it.stop seen.now u closed) used ∙ ap (λ c. out ++ coming_gives flow it.stop seen.now (server_in server seen) c) shut)))
+      (it.phase ∙ ap (λ c. coming_phase flow server is_sent it.stop c) shut))
 
   -- a parked side stays, and its server is the one that is seen
   parked_looked : (looked : Wanted) → side ≡ parked_link at.parked seen → closed ≡ seen.closed → LookFound terms at (used_in side) moment closed looked old new side later out longer is_now →
@@ -437,42 +522,44 @@ module _ (terms : Terms) (at : At) (seen : Sight) (old new : State) (side later 
       found_in terms at looked old new side later out longer is_now (used_in side) (server_parked at.parked seen) moment seen.now closed seen.closed
       (ap used_in parked ∙ parked_used at.parked seen) now shut it
 
-  advanced_by : (looked : Wanted) → HasRequest (stage_of at looked) seen (content_in looked) old → HasSide (stage_of at looked) seen sent (content_in looked) side →
-      HasPlace (stage_of at looked) seen at closed → LookFound terms at (used_in side) moment closed looked old new side later out longer is_now → Advanced (stage_of at looked)
-  advanced_by ready.Idle reads parked place it =
+  advanced_by : (looked : Wanted) → HasRequest (stage_of at looked) seen (content_in looked) old → HasSide (stage_of at looked) seen sent looked side →
+      HasPlace (stage_of at looked) seen at closed → IsPassed (stage_of at looked) seen → HasNoMore looked side → LookFound terms at (used_in side) moment closed looked old new side later out longer is_now → Advanced (stage_of at looked)
+  advanced_by ready.Idle reads parked place kept no_more it =
       let (same, head) = parked_looked ready.Idle parked place.client it in
       idle_by terms at new later out longer is_now seen (same ∙ parked) (request_in seen) refl (head.reads seen.client reads) (head.gives seen.client reads) (head.phase seen.client reads)
-  advanced_by (ready.RequestBody flow given content) reads parked place it =
+  advanced_by (ready.RequestBody flow given content) reads parked place kept no_more it =
       let (same, body) = parked_looked (ready.RequestBody flow given content) parked place.client it in
       body_by terms at new later out longer is_now seen flow (same ∙ parked) given reads.head body.body body.got
       (body_shown body.got reads.head reads.marks seen.client old new content body.body reads.reads reads.is_content body.read) body.gives body.phase
-  advanced_by (ready.Connection flow) keeps parked place it =
+  advanced_by (ready.Connection flow) keeps parked place kept no_more it =
       let (same, once) = parked_looked (ready.Connection flow) parked place.client it in
       let dial : Command = commands.Dial at.dials (dialled_for terms.place flow.request) None in
       at_look terms at new later out longer is_now (busy at flow connection) seen [] (dial ∷ shut_server (server_parked at.parked seen)) (Asks dial) refl once.gives refl
       (asked.Connection flow at.dials, once.phase, record { asks = refl; request = keeps_same seen.client old new once.same keeps; has_side = same ∙ parked })
-  advanced_by (ready.ResponseHead flow server) keeps is_open place (same, it) = answer_looked flow server side later same refl refl keeps place.client is_open it
-  advanced_by (ready.ResponseBody flow server content) keeps is_open place (same, it) = return_looked flow server content side later same refl keeps place.client is_open it
-  advanced_by (ready.Upgraded flow server) keeps is_open place (same, once) =
+  advanced_by (ready.ResponseHead flow server) keeps is_open place kept no_more (same, it) = answer_looked flow server side later same refl refl keeps place.client is_open it
+  advanced_by (ready.ResponseBody flow server most content held) keeps is_open place kept no_more (same, it) =
+      return_looked flow server most content held side later same refl keeps place.client is_open kept no_more it
+  advanced_by (ready.ComingDown flow server is_sent) keeps is_open place kept no_more (same, it) = coming_looked flow server is_sent side later same refl keeps place.client is_open kept no_more it
+  advanced_by (ready.Upgraded flow server) keeps is_open place kept no_more (same, once) =
       at_look terms at new later out longer is_now (busy at flow (upgraded server)) seen [] [] (Ends []) refl once.gives refl
       (ready.Upgraded flow server, once.phase, record { phase = refl; keeps = keeps_same seen.client old new once.same keeps; is_open = subst (IsOpen (LinkKeeps server seen.server seen.shut)) (sym same) is_open })
-  advanced_by (ready.GivenHead flow) keeps parked place it =
+  advanced_by (ready.GivenHead flow) keeps parked place kept no_more it =
       let (same, once) = parked_looked (ready.GivenHead flow) parked place.client it in
       given_head_by terms at new later out longer is_now seen (same ∙ parked) flow (keeps_same seen.client old new once.same keeps) once.gives once.phase
-  advanced_by (ready.GivenBody flow) keeps parked place it =
+  advanced_by (ready.GivenBody flow) keeps parked place kept no_more it =
       let (same, once) = parked_looked (ready.GivenBody flow) parked place.client it in
       let ask : Command = ask_of flow ResponseBody in
       at_look terms at new later out longer is_now (busy at flow given_body) seen [] (ask ∷ []) (Asks ask) refl once.gives refl
       (asked.GivenBody flow, once.phase, record { asks = refl; request = keeps_same seen.client old new once.same keeps; has_side = same ∙ parked })
-  advanced_by (ready.Connects address) none is_open place it = absurd none
-  advanced_by ready.Over keeps is_open place (same, once) =
+  advanced_by (ready.Connects address) none is_open place kept no_more it = absurd none
+  advanced_by ready.Over keeps is_open place kept no_more (same, once) =
       at_look terms at new later out longer is_now over seen [] [] (Ends []) refl once.gives refl (ready.Over, once.phase, refl)
 
   -- What is given is what the stage owes that is passed to, and the flow is there.
-  pub advanced : (stage : Stage) (looked : Wanted) → IsReady at old side looked stage seen sent → HasPlace stage seen at closed →
+  pub advanced : (stage : Stage) (looked : Wanted) → IsReady at old side looked stage seen sent → HasPlace stage seen at closed → IsPassed stage seen → HasNoMore looked side →
       LookFound terms at (used_in side) moment closed looked old new side later out longer is_now → Advanced stage
-  advanced stage looked is place it =
+  advanced stage looked is place kept no_more it =
       let same : stage_of at looked ≡ stage = is.is_stage in
       subst Advanced same
-      (advanced_by looked (subst (λ s. HasRequest s seen (content_in looked) old) (sym same) is.request) (subst (λ s. HasSide s seen sent (content_in looked) side) (sym same) is.has_side)
-      (subst (λ s. HasPlace s seen at closed) (sym same) place) it)
+      (advanced_by looked (subst (λ s. HasRequest s seen (content_in looked) old) (sym same) is.request) (subst (λ s. HasSide s seen sent looked side) (sym same) is.has_side)
+      (subst (λ s. HasPlace s seen at closed) (sym same) place) (subst (λ s. IsPassed s seen) (sym same) kept) no_more it)

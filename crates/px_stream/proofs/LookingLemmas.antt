@@ -26,6 +26,7 @@ use Rattle.px_exchange.specs.Endings.{shut_server}
 use Rattle.px_exchange.specs.Finds.{look_head, or_leaves}
 use Rattle.px_exchange.specs.Requests.{is_http11, judged}
 use Rattle.px_chain.specs.Chain.{Connect, connect_in}
+use Rattle.px_stream.specs.declared.coming.Held.{Held}
 use Rattle.px_stream.specs.declared.link.Link.{Link}
 use Rattle.px_stream.specs.declared.phase.Phase.{Phase}
 use Rattle.px_stream.specs.declared.reading.FinalHead.{FinalHead}
@@ -106,8 +107,8 @@ pub answer_found : {E : Type 0} (result : Result Phase E) (flow : Flow) (server 
 answer_found (Ok next) flow server old new moment used closed out between longer got read gives phase = record { got = got; between = between; read = read; gives = gives; phase = phase }
 answer_found (Err e) flow server old new moment used closed out between longer got read gives phase = tt
 
-pub return_found : {E : Type 0} (result : Result Phase E) (flow : Flow) (server : ℕ) (content body : List ℕ) (old new : Option Link) (moment : ℕ) (used : Used) (closed : Bool) (out longer : List Command) (got : Progress) →
+pub return_found : {E : Type 0} (result : Result Phase E) (flow : Flow) (server : ℕ) (most : Option ℕ) (content body : List ℕ) (held : Option Held) (old new : Option Link) (moment : ℕ) (used : Used) (closed : Bool) (out longer : List Command) (got : Progress) →
     StaysOpen (ReadsMore got content body) old new → OnOk result (longer ≡ out ++ returned_gives flow got body moment used closed) →
-    IfOk result (λ next. next ≡ returned_phase flow server got body moment closed) → IfOk result (λ next. ReturnFound flow server content old new moment used closed out longer next)
-return_found (Ok next) flow server content body old new moment used closed out longer got read gives phase = record { got = got; body = body; read = read; gives = gives; phase = phase }
-return_found (Err e) flow server content body old new moment used closed out longer got read gives phase = tt
+    IfOk result (λ next. next ≡ returned_phase flow server most got body held moment closed) → IfOk result (λ next. ReturnFound flow server most content held old new moment used closed out longer next)
+return_found (Ok next) flow server most content body held old new moment used closed out longer got read gives phase = record { got = got; body = body; read = read; gives = gives; phase = phase }
+return_found (Err e) flow server most content body held old new moment used closed out longer got read gives phase = tt

@@ -19,14 +19,19 @@ use Rattle.px_event.proofs.Steps.{Takes, onward, past_end, Resumes}
 use Rattle.px_read.specs.Items.{Item, missing, part, complete, bad_head, bad_body}
 use Rattle.px_read.specs.Reader.{State}
 use Rattle.px_read.specs.declared.head.RequestHead.{RequestHead as ReadRequest}
+use Rattle.px_read.specs.declared.head.ResponseHead.{ResponseHead as ReadResponse}
+use Rattle.px_exchange.specs.declared.ending.Used.{Used}
 use Rattle.px_exchange.specs.declared.terms.Terms.{Terms}
+use Rattle.px_exchange.specs.Endings.{ends_early}
 use Rattle.px_exchange.specs.Finds.{or_leaves}
-use Rattle.px_chain.specs.Chain.{Connect, behind, connect_in, http_chain, look, pass, pass_body, passed, sequence, so_far, stands, turn}
+use Rattle.px_write.specs.Error.{fault_message}
+use Rattle.px_chain.specs.Chain.{Connect, behind, connect_in, http_chain, is_sequence, leaving, look, look_coming, pass, pass_body, passed, sequence, so_far, stands, turn}
 use Rattle.px_chain.specs.Left.{behind_left, stage_left, stages_left}
-use Rattle.px_chain.specs.Sights.{Sight, Standing, request_in, sight_over}
-use Rattle.px_chain.specs.Stages.{At, Doing, Stage, busy, connection, given_body, given_head, idle, next, over, place_of, request_body, response_body, response_head, upgraded}
-use Rattle.px_chain.proofs.Quiet.{AllQuiet, LooksQuiet, IsBehind, any_flow}
-use Rattle.px_chain.proofs.QuietLemmas.{IsGoing, behind_quiet, finds_quiet_end, so_far_quiet, turn_behind, turn_quiet}
+use Rattle.px_chain.specs.Sights.{Sight, Standing, answers_in, request_in, server_in, sight_over}
+use Rattle.px_chain.specs.Stages.{At, Doing, Stage, busy, coming_down, connection, given_body, given_head, idle, next, over, place_of, request_body, response_body, response_head, upgraded}
+use Rattle.px_chain.proofs.LeftLemmas.{passes_left, sequence_behind}
+use Rattle.px_chain.proofs.Quiet.{AllQuiet, LooksQuiet, IsBehind, IsOf, any_flow}
+use Rattle.px_chain.proofs.QuietLemmas.{IsGoing, behind_quiet, finds_quiet_end, pass_led, pass_quiet, so_far_quiet, turn_behind, turn_quiet}
 use Rattle.px_stream.specs.declared.link.Link.{Link}
 use Rattle.px_stream.specs.declared.phase.Phase.{Phase}
 use Rattle.px_stream.specs.declared.phase.Phase.TheVariants as phase
@@ -80,16 +85,31 @@ asks_by (Ends owed) terms at requests side is_now stage seen is (last, same, the
     let quiet : AllQuiet any_flow owed = subst P is (finds_quiet_end terms stage seen) in
     ap (flat_map ask_atoms) (quiet_seen owed quiet) ∙ ap (λ p. option_to_list (awaited_in p)) (sym same)
 
+-- any number is a stage's own
+any_of : (terms : Terms) (stage : Stage) → IsOf terms any_flow stage
+any_of terms (idle at) = tt
+any_of terms (busy at flow doing) = tt
+any_of terms (next at) = tt
+any_of terms over = tt
+
+-- passing asks nothing
+pub pass_silent : (terms : Terms) (stage : Stage) (seen : Sight) → seen_of questions (pass stage seen).owed ≡ []
+pass_silent terms stage seen = quiet_seen (pass stage seen).owed (pass_quiet terms any_flow stage seen (any_of terms stage))
+
 -- the questions of what is owed over a prefix are those of what is found there
-owes_questions : (terms : Terms) (place : Standing) (prefix : List (Timed Event)) →
-    let there = passed place (sight_over place prefix) in
+pub owes_questions : (terms : Terms) (place : Standing) (prefix : List (Timed Event)) →
+    let there = passed sequence place (sight_over place prefix) in
     seen_of questions (owed_over (http_chain sequence terms) place prefix)
     ≡ seen_of questions (found_with (behind there.stage (sight_over there prefix)) (look terms there.stage (sight_over there prefix)))
 owes_questions terms place prefix =
-    let there : Standing = passed place (sight_over place prefix) in
+    let there : Standing = passed sequence place (sight_over place prefix) in
     let seen : Sight = sight_over there prefix in
-    seen_append questions (so_far there.stage seen) (found_with (behind there.stage seen) (look terms there.stage seen))
-    ∙ ap (λ l. l ++ seen_of questions (found_with (behind there.stage seen) (look terms there.stage seen))) (quiet_seen (so_far there.stage seen) (so_far_quiet any_flow there.stage seen))
+    let found : List Command = found_with (behind there.stage seen) (look terms there.stage seen) in
+    let owed : List Command = (pass place.stage (sight_over place prefix)).owed in
+    seen_append questions owed (so_far there.stage seen ++ found)
+    ∙ (ap (λ l. l ++ seen_of questions (so_far there.stage seen ++ found)) (pass_silent terms place.stage (sight_over place prefix))
+    ∙ (seen_append questions (so_far there.stage seen) found
+    ∙ ap (λ l. l ++ seen_of questions found) (quiet_seen (so_far there.stage seen) (so_far_quiet any_flow there.stage seen))))
 
 module _ (made : Terms) (after : Stream) (moment : ℕ) (more : List Command) where
   -- what is asked behind an event
@@ -97,7 +117,7 @@ module _ (made : Terms) (after : Stream) (moment : ℕ) (more : List Command) wh
       flat_map asks_in more ≡ option_to_list (awaits after)
   takes_asks event place prefix (onward is at gives) =
       let further : List (Timed Event) = prefix ++ record { moment = moment; value = event } ∷ [] in
-      let there : Standing = passed place (sight_over place further) in
+      let there : Standing = passed sequence place (sight_over place further) in
       let seen : Sight = sight_over place prefix in
       asks_seen more
       ∙ (ap (λ l. flat_map ask_atoms (l ++ seen_of questions more)) (sym (quiet_seen (so_far place.stage seen) (so_far_quiet any_flow place.stage seen)))
@@ -116,7 +136,7 @@ module _ (made : Terms) (after : Stream) (moment : ℕ) (more : List Command) wh
       let answer : Timed Reply = record { moment = moment; value = reply } in
       let turned : Turn Stage Command = turn made place.stage (sight_over place prefix) answer in
       let further : Standing = stands place moment prefix (sequence turned.stage) in
-      let there : Standing = passed further (sight_over further prefix) in
+      let there : Standing = passed sequence further (sight_over further prefix) in
       asks_seen more
       ∙ (ap (flat_map ask_atoms)
       (resumes.gives questions ∙ (seen_append questions turned.owed (owed_over (http_chain sequence made) further prefix)
@@ -136,27 +156,15 @@ module _ (ahead : ℕ) where
   pass_few_by at flow (Some response) (bad_head fault) moment is = is
   pass_few_by at flow (Some response) (bad_body fault head body) moment is = is
 
-  -- passing stays with the flow
-  pub pass_few : (stage : Stage) (seen : Sight) → IsFew ahead stage → IsFew ahead (pass stage seen)
-  pass_few (idle at) seen is = is
-  pass_few (busy at flow (request_body given)) seen is = pass_few_by at flow given (request_in seen) seen.now is
-  pass_few (busy at flow connection) seen is = is
-  pass_few (busy at flow (response_head server how)) seen is = is
-  pass_few (busy at flow (response_body side how)) seen is = is
-  pass_few (busy at flow (upgraded side)) seen is = is
-  pass_few (busy at flow given_head) seen is = is
-  pass_few (busy at flow given_body) seen is = is
-  pass_few (next at) seen is = is
-  pass_few over seen is = is
-
-  -- where a reply leads from a flow of this number
+  -- where a reply or a passage leads from a flow of this number
   module _ (flow dials count : ℕ) (few : flow < 1000000) (early : 3 ≤ count → dials ≤ flow + ahead) (late : dials ≤ flow + (ahead + 1)) where
     few_behind : (stage : Stage) → IsBehind flow dials count stage → IsFew ahead stage
     few_behind (idle at) is = absurd is
     few_behind (busy at told (request_body given)) ((same, most), more) = let l = early (omega arith) in record { few = omega arith; dials = omega arith }
     few_behind (busy at told connection) ((same, most), more) = let l = early (omega arith) in record { few = omega arith; dials = omega arith }
     few_behind (busy at told (response_head side how)) ((same, most), more) = let l = early (omega arith) in record { few = omega arith; dials = omega arith }
-    few_behind (busy at told (response_body side how)) ((same, most), more) = record { few = omega arith; dials = omega arith }
+    few_behind (busy at told (response_body side how size)) ((same, most), more) = record { few = omega arith; dials = omega arith }
+    few_behind (busy at told (coming_down side how)) ((same, most), more) = record { few = omega arith; dials = omega arith }
     few_behind (busy at told (upgraded side)) ((same, most), more) = record { few = omega arith; dials = omega arith }
     few_behind (busy at told given_head) ((same, most), more) = record { few = omega arith; dials = omega arith }
     few_behind (busy at told given_body) ((same, most), more) = record { few = omega arith; dials = omega arith }
@@ -172,12 +180,43 @@ module _ (ahead : ℕ) where
   few_turn (busy at flow (request_body given)) there goes is behind = let f = is.few in let d = is.dials in few_behind at.flow at.dials 4 f (λ _. d) (omega arith) there behind
   few_turn (busy at flow connection) there goes is behind = let f = is.few in let d = is.dials in few_behind at.flow at.dials 3 f (λ _. d) (omega arith) there behind
   few_turn (busy at flow (response_head server how)) there goes is behind = few_behind at.flow at.dials 2 is.few (λ (no : 3 ≤ 2). absurd (omega arith)) is.dials there behind
-  few_turn (busy at flow (response_body side how)) there goes is behind = few_behind at.flow at.dials 1 is.few (λ (no : 3 ≤ 1). absurd (omega arith)) is.dials there behind
+  few_turn (busy at flow (response_body side how size)) there goes is behind = few_behind at.flow at.dials 1 is.few (λ (no : 3 ≤ 1). absurd (omega arith)) is.dials there behind
+  few_turn (busy at flow (coming_down side how)) there goes is behind = few_behind at.flow at.dials 0 is.few (λ (no : 3 ≤ 0). absurd (omega arith)) is.dials there behind
   few_turn (busy at flow (upgraded side)) there goes is behind = few_behind at.flow at.dials 0 is.few (λ (no : 3 ≤ 0). absurd (omega arith)) is.dials there behind
   few_turn (busy at flow given_head) there goes is behind = few_behind at.flow at.dials 2 is.few (λ (no : 3 ≤ 2). absurd (omega arith)) is.dials there behind
   few_turn (busy at flow given_body) there goes is behind = few_behind at.flow at.dials 1 is.few (λ (no : 3 ≤ 1). absurd (omega arith)) is.dials there behind
   few_turn (next at) there goes is behind = absurd goes
   few_turn over there goes is behind = few_over there behind
+
+  -- the next flow is one of them
+  few_onward : (stage : Stage) → IsFew ahead stage → IsFew ahead (sequence stage)
+  few_onward (idle at) is = is
+  few_onward (busy at flow doing) is = is
+  few_onward (next at) is = is
+  few_onward over is = is
+
+module _ (ahead : ℕ) (terms : Terms) where
+  -- passing stays with the flow, or ends it
+  pass_flow : (at : At) (flow : Flow) (doing : Doing) (seen : Sight) → IsFew ahead (busy at flow doing) → IsFew ahead (pass (busy at flow doing) seen).stage
+  pass_flow at flow (request_body given) seen is = pass_few_by ahead at flow given (request_in seen) seen.now is
+  pass_flow at flow connection seen is = is
+  pass_flow at flow (response_head server how) seen is = is
+  pass_flow at flow (response_body server how most) seen is =
+      few_behind ahead at.flow at.dials 2 is.few (λ (no : 3 ≤ 2). absurd (omega arith)) is.dials (pass (busy at flow (response_body server how most)) seen).stage
+      (pass_led terms any_flow at flow (response_body server how most) seen tt).behind
+  pass_flow at flow (coming_down server how) seen is =
+      few_behind ahead at.flow at.dials 1 is.few (λ (no : 3 ≤ 1). absurd (omega arith)) is.dials (pass (busy at flow (coming_down server how)) seen).stage
+      (pass_led terms any_flow at flow (coming_down server how) seen tt).behind
+  pass_flow at flow (upgraded server) seen is = is
+  pass_flow at flow given_head seen is = is
+  pass_flow at flow given_body seen is = is
+
+  -- where it passes, it stays with the flow or the next one begins
+  pub pass_few : (stage : Stage) (seen : Sight) → IsFew ahead stage → IsFew ahead (sequence (pass stage seen).stage)
+  pass_few (idle at) seen is = is
+  pass_few (busy at flow doing) seen is = few_onward ahead (pass (busy at flow doing) seen).stage (pass_flow at flow doing seen is)
+  pass_few (next at) seen is = is
+  pass_few over seen is = is
 
 -- at the end nothing is asked
 ends_go : (closed : Bool) (ask : Command) → or_leaves closed [] (Ends []) ≡ Asks ask → ⊥
@@ -190,23 +229,17 @@ goes_on terms (busy at flow doing) seen ask is = tt
 goes_on terms (next at) seen ask is = absurd (ends_go seen.closed ask is)
 goes_on terms over seen ask is = tt
 
-module _ (ahead : ℕ) where
+module _ (ahead : ℕ) (terms : Terms) where
   -- an answer leads to one of a few flows
-  pub turn_few : (terms : Terms) (stage : Stage) (seen : Sight) (answer : Timed Reply) (ask : Command) → look terms stage seen ≡ Asks ask → IsFew ahead stage → IsFew ahead (turn terms stage seen answer).stage
-  turn_few terms stage seen answer ask is few =
+  pub turn_few : (stage : Stage) (seen : Sight) (answer : Timed Reply) (ask : Command) → look terms stage seen ≡ Asks ask → IsFew ahead stage → IsFew ahead (turn terms stage seen answer).stage
+  turn_few stage seen answer ask is few =
       let goes = goes_on terms stage seen ask is in few_turn ahead stage (turn terms stage seen answer).stage goes few (turn_behind terms stage seen answer goes)
 
-  few_onward : (stage : Stage) → IsFew ahead stage → IsFew ahead (sequence stage)
-  few_onward (idle at) is = is
-  few_onward (busy at flow doing) is = is
-  few_onward (next at) is = is
-  few_onward over is = is
-
-  -- and so does the next flow
-  pub sequence_few : (terms : Terms) (stage : Stage) (seen later : Sight) (answer : Timed Reply) (ask : Command) → look terms stage seen ≡ Asks ask → IsFew ahead stage →
-      IsFew ahead (pass (sequence (turn terms stage seen answer).stage) later)
-  sequence_few terms stage seen later answer ask is few =
-      pass_few ahead (sequence (turn terms stage seen answer).stage) later (few_onward (turn terms stage seen answer).stage (turn_few terms stage seen answer ask is few))
+  -- and so does the next flow, also where it passes
+  pub sequence_few : (stage : Stage) (seen later : Sight) (answer : Timed Reply) (ask : Command) → look terms stage seen ≡ Asks ask → IsFew ahead stage →
+      IsFew ahead (sequence (pass (sequence (turn terms stage seen answer).stage) later).stage)
+  sequence_few stage seen later answer ask is few =
+      pass_few ahead terms (sequence (turn terms stage seen answer).stage) later (few_onward ahead (turn terms stage seen answer).stage (turn_few stage seen answer ask is few))
 
 -- ---- left
 
@@ -220,7 +253,8 @@ ready_left terms at ready.Idle seen waits = refl
 ready_left terms at (ready.RequestBody flow given body) seen waits = refl
 ready_left terms at (ready.Connection flow) seen waits = refl
 ready_left terms at (ready.ResponseHead flow server) seen waits = refl
-ready_left terms at (ready.ResponseBody flow server body) seen waits = refl
+ready_left terms at (ready.ResponseBody flow server most body held) seen waits = refl
+ready_left terms at (ready.ComingDown flow server sent) seen waits = refl
 ready_left terms at (ready.Upgraded flow server) seen waits = absurd (never_waits seen.closed waits)
 ready_left terms at (ready.GivenHead flow) seen waits = refl
 ready_left terms at (ready.GivenBody flow) seen waits = refl
@@ -236,7 +270,8 @@ none_for : (flow : Flow) (doing : Doing) (at : At) (seen : Sight) (requests : St
 none_for flow (request_body given) at seen requests side last is = ap (λ l. left_by at (phase.Ready l)) is
 none_for flow connection at seen requests side last is = ap (λ l. left_by at (phase.Ready l)) is
 none_for flow (response_head server how) at seen requests side last is = ap (λ l. left_by at (phase.Ready l)) is
-none_for flow (response_body server how) at seen requests side last is = ap (λ l. left_by at (phase.Ready l)) is
+none_for flow (response_body server how most) at seen requests side last is = ap (λ l. left_by at (phase.Ready l)) is
+none_for flow (coming_down server how) at seen requests side last is = ap (λ l. left_by at (phase.Ready l)) is
 none_for flow (upgraded server) at seen requests side last is = ap (λ l. left_by at (phase.Ready l)) is.phase
 none_for flow given_head at seen requests side last is = ap (λ l. left_by at (phase.Ready l)) is
 none_for flow given_body at seen requests side last is = ap (λ l. left_by at (phase.Ready l)) is
@@ -247,12 +282,27 @@ none_last terms (busy here flow doing) at seen requests side last is = none_for 
 none_last terms (next here) at seen requests side last is = ap (λ l. left_by at (phase.Ready l)) is
 none_last terms over at seen requests side last is = ap (λ l. left_by at (phase.Ready l)) is
 
+-- of a response that is streamed nothing is asked
+coming_asks : (closed : Bool) (leaves : List Command) (flow : Flow) (item : Item ReadResponse) (moment : ℕ) (used : Used) (ask : Command) →
+    or_leaves closed leaves (look_coming flow item moment used closed) ≡ Asks ask → ⊥
+coming_asks true leaves flow missing moment used ask is = let no : Ends leaves ≡ Asks ask = is in cc
+coming_asks false leaves flow missing moment used ask is = let no : NotYet ≡ Asks ask = is in cc
+coming_asks true leaves flow (part head body) moment used ask is = let no : Ends leaves ≡ Asks ask = is in cc
+coming_asks false leaves flow (part head body) moment used ask is = let no : NotYet ≡ Asks ask = is in cc
+coming_asks true leaves flow (complete head body trailers size) moment used ask is = let no : Ends leaves ≡ Asks ask = is in cc
+coming_asks false leaves flow (complete head body trailers size) moment used ask is = let no : NotYet ≡ Asks ask = is in cc
+coming_asks true leaves flow (bad_head fault) moment used ask is = let no : Ends leaves ≡ Asks ask = is in cc
+coming_asks false leaves flow (bad_head fault) moment used ask is = let no : NotYet ≡ Asks ask = is in cc
+coming_asks closed leaves flow (bad_body fault head body) moment used ask is = let no : Ends (ends_early flow (fault_message fault) moment used closed) ≡ Asks ask = is in cc
+
 some_left : (terms : Terms) (stage : Stage) (seen : Sight) (ask : Command) → look terms stage seen ≡ Asks ask → 0 < stage_left stage
 some_left terms (idle at) seen ask is = omega arith
 some_left terms (busy at flow (request_body given)) seen ask is = omega arith
 some_left terms (busy at flow connection) seen ask is = omega arith
 some_left terms (busy at flow (response_head side how)) seen ask is = omega arith
-some_left terms (busy at flow (response_body side how)) seen ask is = omega arith
+some_left terms (busy at flow (response_body side how size)) seen ask is = omega arith
+some_left terms (busy at flow (coming_down side how)) seen ask is =
+    absurd (coming_asks seen.closed (leaving (busy at flow (coming_down side how)) seen) flow (answers_in flow.request seen).final seen.now (server_in side seen) ask is)
 some_left terms (busy at flow (upgraded side)) seen ask is = absurd (ends_go seen.closed ask is)
 some_left terms (busy at flow given_head) seen ask is = omega arith
 some_left terms (busy at flow given_body) seen ask is = omega arith
@@ -272,25 +322,26 @@ place_there terms (busy here flow doing) seen ask at closed is place = place.is_
 place_there terms (next here) seen ask at closed is place = place.is_here
 place_there terms over seen ask at closed is place = absurd (ends_go seen.closed ask is)
 
-passed_by : (at : At) (flow : Flow) (given : Option Response) (item : Item ReadRequest) (moment : ℕ) → stages_left (pass_body at flow given item moment) ≤ behind_left at.flow + 4
-passed_by at flow None item moment = omega arith
-passed_by at flow (Some response) missing moment = omega arith
-passed_by at flow (Some response) (part head body) moment = omega arith
-passed_by at flow (Some response) (complete head body trailers used) moment = omega arith
-passed_by at flow (Some response) (bad_head fault) moment = omega arith
-passed_by at flow (Some response) (bad_body fault head body) moment = omega arith
+-- Where it passes it can ask no more, also where the next flow begins.
+pub pass_stages : (terms : Terms) (stage : Stage) (seen : Sight) → IsGoing stage → stages_left (sequence (pass stage seen).stage) ≤ stages_left stage
+pass_stages terms (idle at) seen goes = omega arith
+pass_stages terms (busy at flow doing) seen goes = passes_left terms at flow doing seen sequence (is_sequence refl)
+pass_stages terms (next at) seen goes = absurd goes
+pass_stages terms over seen goes = omega arith
 
-pass_stages : (stage : Stage) (seen : Sight) → stages_left (pass stage seen) ≤ stages_left stage
-pass_stages (idle at) seen = omega arith
-pass_stages (busy at flow (request_body given)) seen = passed_by at flow given (request_in seen) seen.now
-pass_stages (busy at flow connection) seen = omega arith
-pass_stages (busy at flow (response_head side how)) seen = omega arith
-pass_stages (busy at flow (response_body side how)) seen = omega arith
-pass_stages (busy at flow (upgraded side)) seen = omega arith
-pass_stages (busy at flow given_head) seen = omega arith
-pass_stages (busy at flow given_body) seen = omega arith
-pass_stages (next at) seen = omega arith
-pass_stages over seen = omega arith
+-- in sequence no flow stays finished
+pub sequence_goes : (stage : Stage) → IsGoing (sequence stage)
+sequence_goes (idle at) = tt
+sequence_goes (busy at flow doing) = tt
+sequence_goes (next at) = tt
+sequence_goes over = tt
+
+-- nor does it wait there
+pub waits_going : (terms : Terms) (stage : Stage) (seen : Sight) → look terms stage seen ≡ NotYet → IsGoing stage
+waits_going terms (idle at) seen is = tt
+waits_going terms (busy at flow doing) seen is = tt
+waits_going terms (next at) seen is = absurd (never_waits seen.closed is)
+waits_going terms over seen is = tt
 
 module _ (made : Terms) (state : Stream) (stage : Stage) (seen : Sight) (there : IsIn made state stage seen) where
   abbrev Found : Look Command → Type 0
@@ -326,25 +377,13 @@ pub takes_left : (made : Terms) (before after : Stream) (moment : ℕ) (event : 
     Takes (http_chain sequence made) (IsAt made) after moment event more place prefix → sequence_left after ≤ sequence_left before
 takes_left made before after moment event more place prefix at (onward is later gives) =
     let further : List (Timed Event) = prefix ++ record { moment = moment; value = event } ∷ [] in
-    let there : Standing = passed place (sight_over place further) in
+    let there : Standing = passed sequence place (sight_over place further) in
     let same = left_waits made before place.stage (sight_over place prefix) at.is_in is in
     let most = at_most made after there.stage (sight_over there further) later.is_in in
-    let on = pass_stages place.stage (sight_over place further) in
+    let on = pass_stages made place.stage (sight_over place further) (waits_going made place.stage (sight_over place prefix) is) in
     omega arith
 takes_left made before after moment event more place prefix at (past_end owed is later gives) =
     let none = left_ends made after place.stage (sight_over place prefix) later.is_in owed is in omega arith
-
-sequence_behind : (flow dials count : ℕ) (stage : Stage) → 0 < count → IsBehind flow dials count stage → stages_left (sequence stage) < behind_left flow + count
-sequence_behind flow dials count (idle at) some is = absurd is
-sequence_behind flow dials count (busy at told (request_body given)) some ((same, most), more) = omega arith
-sequence_behind flow dials count (busy at told connection) some ((same, most), more) = omega arith
-sequence_behind flow dials count (busy at told (response_head side how)) some ((same, most), more) = omega arith
-sequence_behind flow dials count (busy at told (response_body side how)) some ((same, most), more) = omega arith
-sequence_behind flow dials count (busy at told (upgraded side)) some ((same, most), more) = omega arith
-sequence_behind flow dials count (busy at told given_head) some ((same, most), more) = omega arith
-sequence_behind flow dials count (busy at told given_body) some ((same, most), more) = omega arith
-sequence_behind flow dials count (next at) some ((same, most), less) = omega arith
-sequence_behind flow dials count over some is = omega arith
 
 pub sequence_falls : (terms : Terms) (stage : Stage) (seen : Sight) (answer : Timed Reply) (ask : Command) → look terms stage seen ≡ Asks ask →
     stages_left (sequence (turn terms stage seen answer).stage) < stages_left stage
@@ -361,9 +400,9 @@ resumes_left made before after moment reply more place prefix at resumes =
     let answer : Timed Reply = record { moment = moment; value = reply } in
     let led : Stage = sequence (turn made place.stage seen answer).stage in
     let further : Standing = stands place moment prefix led in
-    let there : Standing = passed further (sight_over further prefix) in
+    let there : Standing = passed sequence further (sight_over further prefix) in
     let same = left_asks made before place.stage seen at.is_in resumes.ask resumes.asked in
     let most = at_most made after there.stage (sight_over there prefix) resumes.place.is_in in
-    let on = pass_stages led (sight_over further prefix) in
+    let on = pass_stages made led (sight_over further prefix) (sequence_goes (turn made place.stage seen answer).stage) in
     let falls = sequence_falls made place.stage seen answer resumes.ask resumes.asked in
     omega arith

@@ -7,6 +7,7 @@ use Rattle.px_event.specs.declared.event.Rests.{Rests}
 use Rattle.px_event.specs.Chain.{Timed, Look, NotYet, Asks, Ends}
 use Rattle.px_message.specs.declared.flow.Flow.{Flow}
 use Rattle.px_message.specs.declared.request.Request.{Request}
+use Rattle.px_message.specs.declared.response.Response.{Response}
 use Rattle.px_read.specs.Marks.{Mark, asks}
 use Rattle.px_read.specs.Reader.{State}
 use Rattle.px_read.specs.declared.head.ResponseHead.{ResponseHead as ReadResponse}
@@ -15,7 +16,8 @@ use Rattle.px_exchange.specs.declared.terms.Terms.{Terms}
 use Rattle.px_exchange.specs.Requests.{is_head}
 use Rattle.px_chain.specs.Chain.{Connect, connect_in, look}
 use Rattle.px_chain.specs.Sights.{Sight, Standing, request_in, sight_over}
-use Rattle.px_chain.specs.Stages.{At, Doing, Stage, busy, connection, given_body, given_head, idle, next, over, request_body, response_body, response_head, upgraded}
+use Rattle.px_chain.specs.Stages.{At, Doing, Stage, busy, coming_down, connection, given_body, given_head, idle, next, over, request_body, response_body, response_head, upgraded}
+use Rattle.px_stream.specs.declared.coming.Held.{Held}
 use Rattle.px_stream.specs.declared.link.Link.{Link}
 use Rattle.px_stream.specs.declared.phase.Asked.{Asked}
 use Rattle.px_stream.specs.declared.phase.Phase.{Phase}
@@ -25,7 +27,7 @@ use Rattle.px_stream.specs.declared.phase.Wanted.TheVariants as ready
 use Rattle.px_stream.specs.declared.stream.Stream.{Stream}
 use Rattle.px_stream.specs.Anywhere.{IsInSequence}
 use Rattle.px_stream.specs.Rests.{ClientAsked, ClientBehind, ClientLast, ClientWaiting, IsUnreadAnswer, LeavesRests, ServerAsked, ServerLast, ServerWaiting, flow_last}
-use Rattle.px_stream.specs.Stands.{AskedRequest, AskedSide, HasRequest, HasSide, IsLast, IsLastAt, IsLastFor, IsLink, IsOpen, LinkKeeps, PhaseAt, ReadsFinal, ReadsReturn, content_in, is_last, stage_of}
+use Rattle.px_stream.specs.Stands.{AskedRequest, AskedSide, HasRequest, HasSide, IsLast, IsLastAt, IsLastFor, IsLink, IsOpen, LinkKeeps, PhaseAt, ReadsDown, ReadsFinal, ReadsReturn, SentOn, asked_in, content_in, is_last, stage_of}
 use Rattle.px_stream.specs.Tells.{connected_by, ended_at, outcome_at, outcome_in, phase_flow, side_rest, uses_side}
 use Rattle.px_stream.proofs.AskLemmas.{uses_asked, uses_of}
 
@@ -36,14 +38,20 @@ link_unread message server seen sent told link is =
 
 -- ---- while no answer is awaited
 
-module _ (terms : Terms) (at : At) (requests : State) (side : Option Link) (seen : Sight) (sent : List ReadResponse) where
-  head_waits : (message : Request) (server : ℕ) (s : Option Link) → IsOpen (IsLink message server seen sent []) s → IsUnreadAnswer (is_head message.method) seen.server seen.shut (side_rest true s)
+module _ (terms : Terms) (at : At) (requests : State) (side : Option Link) (seen : Sight) (sent : SentOn) where
+  head_waits : (message : Request) (server : ℕ) (s : Option Link) → IsOpen (IsLink message server seen sent.interim []) s → IsUnreadAnswer (is_head message.method) seen.server seen.shut (side_rest true s)
   head_waits message server None is = absurd is
-  head_waits message server (Some link) is = link_unread message server seen sent [] link is
+  head_waits message server (Some link) is = link_unread message server seen sent.interim [] link is
 
-  body_waits : (message : Request) (server : ℕ) (content : List ℕ) (s : Option Link) → IsOpen (ReadsReturn message server seen content) s → IsUnreadAnswer (is_head message.method) seen.server seen.shut (side_rest true s)
-  body_waits message server content None is = absurd is
-  body_waits message server content (Some link) is = link_unread message server seen is.sent _ link is.is_link
+  body_waits : (flow : Flow) (server : ℕ) (most : Option ℕ) (content : List ℕ) (held : Option Held) (s : Option Link) → IsOpen (ReadsReturn flow server most seen content held) s →
+      IsUnreadAnswer (is_head flow.request.method) seen.server seen.shut (side_rest true s)
+  body_waits flow server most content held None is = absurd is
+  body_waits flow server most content held (Some link) is = link_unread flow.request server seen is.sent _ link is.is_link
+
+  down_waits : (flow : Flow) (server : ℕ) (is_sent : Option Response) (text : List ℕ) (s : Option Link) → IsOpen (ReadsDown flow server seen is_sent text) s →
+      IsUnreadAnswer (is_head flow.request.method) seen.server seen.shut (side_rest true s)
+  down_waits flow server is_sent text None is = absurd is
+  down_waits flow server is_sent text (Some link) is = link_unread flow.request server seen is.sent _ link is.is_link
 
   record Waits (looked : Wanted) : Type 0 where
     client : ClientWaiting (stage_of at looked) seen requests.rest
@@ -51,13 +59,14 @@ module _ (terms : Terms) (at : At) (requests : State) (side : Option Link) (seen
     flow : phase_flow (phase.Ready looked) ≡ None
     going : outcome_in (phase.Ready looked) ≡ outcomes.Going
 
-  waits_by : (looked : Wanted) → is_last (phase.Ready looked) ≡ false → HasRequest (stage_of at looked) seen (content_in looked) requests → HasSide (stage_of at looked) seen sent (content_in looked) side → Waits looked
+  waits_by : (looked : Wanted) → is_last (phase.Ready looked) ≡ false → HasRequest (stage_of at looked) seen (content_in looked) requests → HasSide (stage_of at looked) seen sent looked side → Waits looked
   waits_by ready.Idle goes reads has = record { client = record { told = []; state = requests; reads = reads; keeps = refl }; server = refl; flow = refl; going = refl }
   waits_by (ready.RequestBody flow given body) goes reads has =
       record { client = record { told = asks reads.head ∷ reads.marks; state = requests; reads = reads.reads; keeps = refl }; server = refl; flow = refl; going = refl }
   waits_by (ready.Connection flow) goes reads has = record { client = reads.rest; server = refl; flow = refl; going = refl }
   waits_by (ready.ResponseHead flow server) goes reads has = record { client = reads.rest; server = head_waits flow.request server side has; flow = refl; going = refl }
-  waits_by (ready.ResponseBody flow server body) goes reads has = record { client = reads.rest; server = body_waits flow.request server body side has; flow = refl; going = refl }
+  waits_by (ready.ResponseBody flow server most body held) goes reads has = record { client = reads.rest; server = body_waits flow server most body held side has; flow = refl; going = refl }
+  waits_by (ready.ComingDown flow server is_sent) goes reads has = record { client = reads.rest; server = down_waits flow server (Some is_sent) sent.text side has; flow = refl; going = refl }
   waits_by (ready.Upgraded flow server) goes reads has = absurd (let no : true ≡ false = goes in cc)
   waits_by (ready.GivenHead flow) goes reads has = record { client = reads.rest; server = refl; flow = refl; going = refl }
   waits_by (ready.GivenBody flow) goes reads has = record { client = reads.rest; server = refl; flow = refl; going = refl }
@@ -81,17 +90,18 @@ module _ (terms : Terms) (requests : State) (side : Option Link) (found : Asked)
   client_asked (next at) is = is.rest
   client_asked over is = is.rest
 
-  server_asked : (stage : Stage) → AskedSide stage seen side → ServerAsked stage seen (side_rest (uses_of stage) side)
-  server_asked (idle at) is = refl
-  server_asked (busy at flow (request_body given)) is = refl
-  server_asked (busy at flow connection) is = refl
-  server_asked (busy at flow (response_head server how)) is = final_waits flow.request server seen side is
-  server_asked (busy at flow (response_body server how)) is = kept_waits server _ seen.shut side is
-  server_asked (busy at flow (upgraded server)) is = refl
-  server_asked (busy at flow given_head) is = refl
-  server_asked (busy at flow given_body) is = refl
-  server_asked (next at) is = refl
-  server_asked over is = refl
+  server_asked : (stage : Stage) → asked_in terms stage seen ≡ Some found → AskedSide stage seen side → ServerAsked stage seen (side_rest (uses_of stage) side)
+  server_asked (idle at) is_asked is = refl
+  server_asked (busy at flow (request_body given)) is_asked is = refl
+  server_asked (busy at flow connection) is_asked is = refl
+  server_asked (busy at flow (response_head server how)) is_asked is = final_waits flow.request server seen side is
+  server_asked (busy at flow (response_body server how most)) is_asked is = kept_waits server _ seen.shut side is
+  server_asked (busy at flow (coming_down server how)) is_asked is = absurd (let no : None ≡ Some found = is_asked in cc)
+  server_asked (busy at flow (upgraded server)) is_asked is = refl
+  server_asked (busy at flow given_head) is_asked is = refl
+  server_asked (busy at flow given_body) is_asked is = refl
+  server_asked (next at) is_asked is = refl
+  server_asked over is_asked is = refl
 
 -- ---- at the end
 
@@ -123,7 +133,8 @@ module _ (terms : Terms) (seen : Sight) (requests : State) (side : Option Link) 
   leaves_for at flow (request_body given) is = record { client = tt; server = ap rest_in is; flow = ap (λ l. phase_flow (phase.Ready l)) is; ended = ap (λ l. outcome_in (phase.Ready l)) is }
   leaves_for at flow connection is = record { client = tt; server = ap rest_in is; flow = ap (λ l. phase_flow (phase.Ready l)) is; ended = ap (λ l. outcome_in (phase.Ready l)) is }
   leaves_for at flow (response_head server how) is = record { client = tt; server = ap rest_in is; flow = ap (λ l. phase_flow (phase.Ready l)) is; ended = ap (λ l. outcome_in (phase.Ready l)) is }
-  leaves_for at flow (response_body server how) is = record { client = tt; server = ap rest_in is; flow = ap (λ l. phase_flow (phase.Ready l)) is; ended = ap (λ l. outcome_in (phase.Ready l)) is }
+  leaves_for at flow (response_body server how most) is = record { client = tt; server = ap rest_in is; flow = ap (λ l. phase_flow (phase.Ready l)) is; ended = ap (λ l. outcome_in (phase.Ready l)) is }
+  leaves_for at flow (coming_down server how) is = record { client = tt; server = ap rest_in is; flow = ap (λ l. phase_flow (phase.Ready l)) is; ended = ap (λ l. outcome_in (phase.Ready l)) is }
   leaves_for at flow (upgraded server) is = record {
     client = is.keeps.rest;
     server = ap rest_in is.phase ∙ kept_waits server seen.server seen.shut side is.is_open;
@@ -147,7 +158,8 @@ goes_on terms at ready.Idle seen waits = refl
 goes_on terms at (ready.RequestBody flow given body) seen waits = refl
 goes_on terms at (ready.Connection flow) seen waits = refl
 goes_on terms at (ready.ResponseHead flow server) seen waits = refl
-goes_on terms at (ready.ResponseBody flow server body) seen waits = refl
+goes_on terms at (ready.ResponseBody flow server most body held) seen waits = refl
+goes_on terms at (ready.ComingDown flow server sent) seen waits = refl
 goes_on terms at (ready.Upgraded flow server) seen waits = absurd (let no : Ends [] ≡ NotYet = waits in cc)
 goes_on terms at (ready.GivenHead flow) seen waits = refl
 goes_on terms at (ready.GivenBody flow) seen waits = refl
@@ -167,7 +179,7 @@ module _ (terms : Terms) (at : At) (requests : State) (side : Option Link) (foun
   tells_by NotYet waits (looked, sent, same, is, gave) =
       let goes = goes_on terms at looked seen (ap (λ s. look terms s seen) is.is_stage ∙ waits) in
       let there = waits_by terms at requests side seen sent looked goes (subst (λ s. HasRequest s seen (content_in looked) requests) (sym is.is_stage) is.request)
-      (subst (λ s. HasSide s seen sent (content_in looked) side) (sym is.is_stage) is.has_side) in
+      (subst (λ s. HasSide s seen sent looked side) (sym is.is_stage) is.has_side) in
       record {
         rests = subst (LeavesIn NotYet) (sym same) (
           subst (λ s. ClientWaiting s seen requests.rest) is.is_stage there.client,
@@ -179,7 +191,7 @@ module _ (terms : Terms) (at : At) (requests : State) (side : Option Link) (foun
   tells_by (Asks ask) is_found (here, same, is) = record {
     rests = subst (LeavesIn (Asks ask)) (sym same) (
       client_asked terms requests side here seen stage is.request,
-      subst (λ b. ServerAsked stage seen (side_rest b side)) (sym (uses_asked terms stage seen here is.asks)) (server_asked terms requests side here seen stage is.has_side),
+      subst (λ b. ServerAsked stage seen (side_rest b side)) (sym (uses_asked terms stage seen here is.asks)) (server_asked terms requests side here seen stage is.asks is.has_side),
       refl,
     );
     outcome = ap outcome_in same;

@@ -1,18 +1,19 @@
 -- What was read of a body, as the item that stands there.
-use Rattle.std.proofs.Common.{◌≡◌, ℕ, ◌+◌, ◌≤◌, Bool, false, List, ◌∷◌, ◌++◌, length, drop, refl, ap, sym, ◌∙◌, arith}
+use Rattle.std.proofs.Common.{◌≡◌, ℕ, suc, ◌+◌, ◌≤◌, Bool, false, List, [], ◌∷◌, ◌++◌, length, drop, refl, ap, sym, ◌∙◌, arith, length-append}
 use Rattle.std.proofs.lemmas.Grind.{flat_map-append}
-use Rattle.std.proofs.lemmas.List.{drop-drop}
+use Rattle.std.proofs.lemmas.List.{append-nil, drop-drop}
 use Rattle.px_read.specs.Chunks.{Reading}
 use Rattle.px_read.specs.Heads.{is_interim}
 use Rattle.px_read.specs.Items.{Body, part, complete, bad_body, body_of, content_in, request_told, request_item, response_told, Answers, answer_list}
 use Rattle.px_read.specs.Marks.{Mark, asks, answers}
 use Rattle.px_read.specs.Readings.{response_reading}
-use Rattle.px_read.specs.Reader.{request, response, State, Reads}
+use Rattle.px_read.specs.Reader.{Message, request, response, State, Reads, to_come}
 use Rattle.px_read.specs.declared.head.RequestHead.{RequestHead as ReadRequest}
 use Rattle.px_read.specs.declared.head.ResponseHead.{ResponseHead as ReadResponse}
 use Rattle.px_exchange.specs.declared.body.Progress.{Progress}
 use Rattle.px_exchange.specs.declared.body.Progress.TheVariants as progress
 use Rattle.px_exchange.specs.Bodies.{HasRead, content_of}
+use Rattle.px_exchange.proofs.BodyLemmas.{come}
 use Rattle.px_stream.specs.declared.link.Link.{Link}
 use Rattle.px_stream.specs.Stands.{ReadsLink}
 use Rattle.px_stream.proofs.AnswerLemmas.{StandsThere, final_here, stands_there}
@@ -56,6 +57,23 @@ body_shown (progress.Bad fault) head marks fed old new content longer reads is r
     (body_of (marks ++ m), ap (λ (r : Reading). request_told r.marks r.finish) come)
 
 -- ---- of a response's
+
+no_length : (l : List Mark) → length l ≡ 0 → l ≡ []
+no_length [] is = refl
+no_length (x ∷ l) is = absurd (let e : suc (length l) ≡ 0 = is in omega arith)
+
+-- Where nothing was to come, no mark was given.
+pub no_more_read : (message : Message) (told more : List Mark) (fed : List ℕ) (closed : Bool) (old new : State) → Reads message told fed closed old → Reads message (told ++ more) fed closed new →
+    (to_come old).marks ≡ [] → more ≡ []
+no_more_read message told more fed closed old new before after none =
+    let one : told ++ (to_come old).marks ≡ (told ++ more) ++ (to_come new).marks =
+    ap (λ (r : Reading). r.marks) (sym (come message told fed closed old before) ∙ come message (told ++ more) fed closed new after) in
+    let sizes = ap length one in
+    let left = length-append told (to_come old).marks in
+    let right = length-append (told ++ more) (to_come new).marks in
+    let inner = length-append told more in
+    let nothing : length (to_come old).marks ≡ 0 = ap length none in
+    no_length more (omega arith)
 
 none_behind : (n m : ℕ) → m ≡ 0 → n + m ≡ n
 none_behind n m is = omega arith
@@ -120,3 +138,13 @@ module _ (asked_head : Bool) (number : ℕ) (bytes : List ℕ) (shut : Bool) (se
       let m = read.collects.marks in
       let come = read.come (response asked_head) (answers head ∷ marks) keeps.fed shut keeps.reads in
       (body_of (marks ++ m), item_of marks kept keeps _ (marks ++ m) refl come)
+
+  -- where nothing was to come, what was read before is all
+  pub shown_same : (marks : List Mark) (kept : Link) (new : State) (content longer : List ℕ) (keeps : ReadsLink asked_head number bytes shut sent (answers head ∷ marks) kept) (is : content ≡ content_of marks)
+      (read : HasRead progress.Missing kept.responses content new longer) → (to_come kept.responses).marks ≡ [] → (return_shown progress.Missing marks kept new content longer keeps is read).0 ≡ marks
+  unfolding return_shown
+  shown_same marks kept new content longer keeps is read none =
+      let m = read.collects.marks in
+      let given : m ≡ [] =
+      no_more_read (response asked_head) (answers head ∷ marks) m keeps.fed shut kept.responses new keeps.reads (read.collects.reads (response asked_head) (answers head ∷ marks) keeps.fed shut keeps.reads) none in
+      ap (λ l. marks ++ l) given ∙ append-nil marks

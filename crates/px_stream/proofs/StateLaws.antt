@@ -10,7 +10,7 @@ use Rattle.px_exchange.specs.declared.terms.Terms.{Terms}
 use Rattle.px_exchange.specs.Finds.{or_leaves}
 use Rattle.px_chain.specs.Chain.{Connect, connect_in, http_chain, look}
 use Rattle.px_chain.specs.Sights.{Sight, request_in, sight_over}
-use Rattle.px_chain.specs.Stages.{At, Doing, Stage, busy, connection, given_body, given_head, idle, next, over, request_body, response_body, response_head, upgraded}
+use Rattle.px_chain.specs.Stages.{At, Doing, Stage, busy, coming_down, connection, given_body, given_head, idle, next, over, request_body, response_body, response_head, upgraded}
 use Rattle.px_stream.specs.declared.link.Link.{Link}
 use Rattle.px_stream.specs.declared.phase.Phase.{Phase}
 use Rattle.px_stream.specs.declared.phase.Phase.TheVariants as phase
@@ -29,7 +29,8 @@ looks_on terms at ready.Idle seen waits = refl
 looks_on terms at (ready.RequestBody flow given body) seen waits = refl
 looks_on terms at (ready.Connection flow) seen waits = refl
 looks_on terms at (ready.ResponseHead flow server) seen waits = refl
-looks_on terms at (ready.ResponseBody flow server body) seen waits = refl
+looks_on terms at (ready.ResponseBody flow server most body held) seen waits = refl
+looks_on terms at (ready.ComingDown flow server sent) seen waits = refl
 looks_on terms at (ready.Upgraded flow server) seen waits = absurd (not_yet seen.closed waits)
 looks_on terms at (ready.GivenHead flow) seen waits = refl
 looks_on terms at (ready.GivenBody flow) seen waits = refl
@@ -45,7 +46,8 @@ last_for : (doing : Doing) (seen : Sight) (requests : State) (side : Option Link
 last_for (request_body given) seen requests side last flow is = ap (λ r. is_last (phase.Ready r)) is
 last_for connection seen requests side last flow is = ap (λ r. is_last (phase.Ready r)) is
 last_for (response_head server how) seen requests side last flow is = ap (λ r. is_last (phase.Ready r)) is
-last_for (response_body server how) seen requests side last flow is = ap (λ r. is_last (phase.Ready r)) is
+last_for (response_body server how most) seen requests side last flow is = ap (λ r. is_last (phase.Ready r)) is
+last_for (coming_down server how) seen requests side last flow is = ap (λ r. is_last (phase.Ready r)) is
 last_for (upgraded server) seen requests side last flow is = ap (λ r. is_last (phase.Ready r)) is.phase
 last_for given_head seen requests side last flow is = ap (λ r. is_last (phase.Ready r)) is
 last_for given_body seen requests side last flow is = ap (λ r. is_last (phase.Ready r)) is

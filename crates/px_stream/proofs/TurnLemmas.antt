@@ -14,7 +14,7 @@ use Rattle.px_event.specs.Chain.{Timed, Turn}
 use Rattle.px_read.specs.Chunks.{Finish, goes_on, whole, fails, Reading}
 use Rattle.px_read.specs.Items.{Item, missing, part, complete, bad_head, bad_body, answer_list}
 use Rattle.px_read.specs.Laws.{head_in}
-use Rattle.px_read.specs.Marks.{asks}
+use Rattle.px_read.specs.Marks.{asks, answers}
 use Rattle.px_read.specs.Readings.{behind_bytes}
 use Rattle.px_read.specs.Reader.{Message, request, response, State, reading_from, behind_marks, before_all, Reads}
 use Rattle.px_read.specs.declared.head.RequestHead.{RequestHead as ReadRequest}
@@ -33,16 +33,20 @@ use Rattle.px_exchange.specs.Places.{is_same_address, server_for}
 use Rattle.px_exchange.specs.Replies.{taken_at_body_of, taken_at_head_of, taken_at_request_body, taken_at_request_head, taken_at_response_body, taken_at_response_head}
 use Rattle.px_exchange.specs.Requests.{expects, flow_of, is_head, judged}
 use Rattle.px_exchange.specs.Texts.{interim_commands}
-use Rattle.px_chain.specs.Chain.{behind_flow, dial_leads, finish_by, given_at, goes_on_by, parked_for, sequence, side_if, turn, turn_answer, turn_body, turn_head, turn_judged, turn_response, turn_returned, turn_taken_answer, turn_taken_body, turn_taken_given, turn_taken_head, turn_taken_returned, turn_taken_whole, turns}
+use Rattle.px_chain.specs.Chain.{behind_flow, dial_leads, finish_by, given_at, goes_on_by, parked_for, sequence, side_if, turn, turn_answer, turn_answer_head, turn_body, turn_head, turn_judged, turn_response, turn_returned, turn_taken_answer, turn_taken_body, turn_taken_given, turn_taken_head, turn_taken_returned, turn_taken_whole, turns}
 use Rattle.px_chain.specs.Sights.{Sight, answers_in, client_left, dials_at, request_in, server_behind, server_in, server_left, server_parked, shut_behind, sight_behind}
-use Rattle.px_chain.specs.Stages.{At, Doing, Parked, Sent, Stage, all_sent, busy, connection, given_body, given_head, idle, next, over, place_of, request_body, response_body, response_head, side_parked, unparked, upgraded}
+use Rattle.px_chain.specs.Stages.{At, Doing, Parked, Sent, Stage, all_sent, busy, coming_down, connection, given_body, given_head, idle, next, over, place_of, request_body, response_body, response_head, side_parked, unparked, upgraded}
 use Rattle.px_stream.specs.declared.link.Link.{Link}
 use Rattle.px_stream.specs.declared.phase.Asked.{Asked}
+use Rattle.px_stream.specs.declared.phase.Asked.TheVariants as asked
 use Rattle.px_stream.specs.declared.phase.Wanted.{Wanted}
 use Rattle.px_stream.specs.declared.phase.Wanted.TheVariants as ready
-use Rattle.px_stream.specs.Stands.{AskedRequest, AskedSide, HasPlace, HasRequest, HasSide, IsAsked, IsOpen, Keeps, LinkKeeps, ReadsFinal, ReadsLink, ReadsReturn, answer_asked, asked_for, asked_in, body_asked, content_in, head_asked, judged_asked, marks_at, parked_link, returned_asked, sent_on, stage_of, unread_link}
+use Rattle.px_stream.specs.Stands.{none_sent, AskedRequest, AskedSide, HasPlace, HasRequest, HasSide, IsAsked, IsOpen, Keeps, LinkKeeps, ReadsFinal, ReadsLink, ReadsReturn, answer_asked, asked_for, asked_in, body_asked, content_in, head_asked, judged_asked, marks_at, parked_link, returned_asked, sent_on, stage_of, unread_link, Holds, HoldsWhole, IsLink, IsSome, held_in}
 use Rattle.px_stream.proofs.AskLemmas.{dial_asked, used_of}
-use Rattle.px_stream.specs.Turns.{Turned, asked_turn, is_dial, opened_side, requests_behind, side_behind, taken_turn, turned_by, unless_parked}
+use Rattle.px_stream.specs.declared.coming.Held.{Held}
+use Rattle.px_stream.specs.Comings.{IsHeldBy, may_stream}
+use Rattle.px_chain.specs.Coming.{allowed_by}
+use Rattle.px_stream.specs.Turns.{FirstHeld, HeldBehind, HeldFirst, Turned, asked_turn, is_dial, opened_side, requests_behind, side_behind, taken_turn, turned_by, unless_parked}
 
 -- ---- the turn of a stage is that of what it asks
 
@@ -58,7 +62,7 @@ by_head (Some message) answer goes = refl
 
 module _ (terms : Terms) (seen : Sight) (answer : Timed Reply) where
   abbrev Same : At → Used → Turn Stage Command → Option Asked → Type 0
-  Same at used turned found = turned ≡ turned_by terms.place at found seen used seen.closed answer
+  Same at used turned found = turned ≡ turned_by terms at found seen used seen.closed answer
 
   judged_same : (at : At) (used : Used) (head : ReadRequest) (made : Judged) → Same at used (turn_judged terms at head made seen answer) (judged_asked terms at head made seen.now)
   judged_same at used head (Refused fault) = refl
@@ -79,7 +83,7 @@ module _ (terms : Terms) (seen : Sight) (answer : Timed Reply) where
   body_same at used flow (bad_head fault) = refl
   body_same at used flow (bad_body fault head body) = refl
 
-  answer_same : (at : At) (flow : Flow) (server : ℕ) (item : Item ReadResponse) → Same at (server_in server seen) (turn_answer at flow server item seen answer) (answer_asked flow server (head_in item) seen.now)
+  answer_same : (at : At) (flow : Flow) (server : ℕ) (item : Item ReadResponse) → Same at (server_in server seen) (turn_answer terms at flow server item seen answer) (answer_asked flow server (head_in item) seen.now)
   answer_same at flow server missing = refl
   answer_same at flow server (part head body) = refl
   answer_same at flow server (complete head body trailers size) = refl
@@ -95,11 +99,12 @@ module _ (terms : Terms) (seen : Sight) (answer : Timed Reply) where
   returned_same at flow server (bad_head fault) = refl
   returned_same at flow server (bad_body fault head body) = refl
 
-  same_for : (at : At) (flow : Flow) (doing : Doing) → Same at (used_of (busy at flow doing) seen) (turns terms.place at flow doing seen answer) (asked_for at flow doing seen)
+  same_for : (at : At) (flow : Flow) (doing : Doing) → Same at (used_of (busy at flow doing) seen) (turns terms at flow doing seen answer) (asked_for at flow doing seen)
   same_for at flow (request_body given) = body_same at (server_parked at.parked seen) flow (request_in seen)
   same_for at flow connection = refl
   same_for at flow (response_head server how) = answer_same at flow server (answers_in flow.request seen).final
-  same_for at flow (response_body server how) = returned_same at flow server (answers_in flow.request seen).final
+  same_for at flow (response_body server how most) = returned_same at flow server (answers_in flow.request seen).final
+  same_for at flow (coming_down server how) = refl
   same_for at flow (upgraded server) = refl
   same_for at flow given_head =
       by_head (given_at flow seen.now).response answer.value
@@ -109,10 +114,10 @@ module _ (terms : Terms) (seen : Sight) (answer : Timed Reply) where
       (λ taken. turn_taken_returned at flow taken answer.moment (server_parked at.parked seen) seen.closed)
 
   pub turn_asked : (stage : Stage) (found : Asked) → asked_in terms stage seen ≡ Some found →
-      turn terms stage seen answer ≡ asked_turn terms.place (place_of stage) found seen (used_of stage seen) seen.closed answer
+      turn terms stage seen answer ≡ asked_turn terms (place_of stage) found seen (used_of stage seen) seen.closed answer
   turn_asked (idle at) found is =
-      head_same at (server_parked at.parked seen) (request_in seen) ∙ ap (λ o. turned_by terms.place at o seen (server_parked at.parked seen) seen.closed answer) is
-  turn_asked (busy at flow doing) found is = same_for at flow doing ∙ ap (λ o. turned_by terms.place at o seen (used_of (busy at flow doing) seen) seen.closed answer) is
+      head_same at (server_parked at.parked seen) (request_in seen) ∙ ap (λ o. turned_by terms at o seen (server_parked at.parked seen) seen.closed answer) is
+  turn_asked (busy at flow doing) found is = same_for at flow doing ∙ ap (λ o. turned_by terms at o seen (used_of (busy at flow doing) seen) seen.closed answer) is
   turn_asked (next at) found is = absurd (let no : None ≡ Some found = is in cc)
   turn_asked over found is = absurd (let no : None ≡ Some found = is in cc)
 
@@ -167,24 +172,56 @@ no_commands_by versions.Http11 message is = rw is refl
 pub no_commands : (message : Request) → interim_commands message [] ≡ []
 no_commands message = no_commands_by message.version message refl
 
-pub none_sent : (stage : Stage) → sent_on stage [] ≡ []
-none_sent (idle at) = refl
-none_sent (busy at flow (request_body given)) = refl
-none_sent (busy at flow connection) = refl
-none_sent (busy at flow (response_head server how)) = no_commands flow.request
-none_sent (busy at flow (response_body server how)) = refl
-none_sent (busy at flow (upgraded server)) = refl
-none_sent (busy at flow given_head) = refl
-none_sent (busy at flow given_body) = refl
-none_sent (next at) = refl
-none_sent over = refl
+pub sent_none : (stage : Stage) → sent_on stage none_sent ≡ []
+sent_none (idle at) = refl
+sent_none (busy at flow (request_body given)) = refl
+sent_none (busy at flow connection) = refl
+sent_none (busy at flow (response_head server how)) = no_commands flow.request
+sent_none (busy at flow (response_body server how most)) = refl
+sent_none (busy at flow (coming_down server how)) = refl
+sent_none (busy at flow (upgraded server)) = refl
+sent_none (busy at flow given_head) = refl
+sent_none (busy at flow given_body) = refl
+sent_none (next at) = refl
+sent_none over = refl
+
+-- ---- what is held where a response's body is first looked for
+
+first_holds : (b : Bool) (flow : Flow) (message : Response) (most : Option ℕ) (head : ReadResponse) (held : Option Held) → may_stream (is_head flow.request.method) (response_of head) message most ≡ b →
+    flow.response ≡ Some message → IsHeldBy b (response_of head) held → Holds flow most head [] held
+first_holds false flow message most head None is given held = subst (HoldsWhole flow most head) (sym given) is
+first_holds true flow message most head None is given held = absurd held
+first_holds false flow message most head (Some kept) is given held = absurd held
+first_holds true flow message most head (Some kept) is given held = (subst (λ (o : Option Response). IsSome o) (sym given) tt, held.0, held.1)
+
+first_by : (flow : Flow) (o : Option Response) (most : Option ℕ) (head : ReadResponse) (held : Option Held) → flow.response ≡ o → HeldBehind flow (Some (response_of head)) o most held → Holds flow most head [] held
+first_by flow None most head held is first = absurd first
+first_by flow (Some message) most head held is first = first_holds (may_stream (is_head flow.request.method) (response_of head) message most) flow message most head held refl is first
+
+return_first : (looked : Wanted) (here at : At) (told : Flow) (server : ℕ) (most : Option ℕ) (head : ReadResponse) → stage_of here looked ≡ busy at told (response_body server all_sent most) →
+    HeldFirst (Some (response_of head)) looked → Holds told most head [] (held_in looked)
+return_first (ready.ResponseBody flow number size body held) here at told server most head is first =
+    let e : busy here flow (response_body number all_sent size) ≡ busy at told (response_body server all_sent most) = is in
+    let one : flow ≡ told = cc in
+    let two : size ≡ most = cc in
+    subst (λ f. Holds f most head [] held) one (subst (λ m. Holds flow m head [] held) two (first_by flow flow.response size head held refl first))
+return_first (ready.RequestBody flow given body) here at told server most head is first = absurd (let no : stage_of here (ready.RequestBody flow given body) ≡ busy at told (response_body server all_sent most) = is in cc)
+return_first (ready.Connection flow) here at told server most head is first = absurd (let no : stage_of here (ready.Connection flow) ≡ busy at told (response_body server all_sent most) = is in cc)
+return_first (ready.ResponseHead flow number) here at told server most head is first = absurd (let no : stage_of here (ready.ResponseHead flow number) ≡ busy at told (response_body server all_sent most) = is in cc)
+return_first (ready.ComingDown flow number sent) here at told server most head is first = absurd (let no : stage_of here (ready.ComingDown flow number sent) ≡ busy at told (response_body server all_sent most) = is in cc)
+return_first (ready.Upgraded flow number) here at told server most head is first = absurd (let no : stage_of here (ready.Upgraded flow number) ≡ busy at told (response_body server all_sent most) = is in cc)
+return_first (ready.GivenHead flow) here at told server most head is first = absurd (let no : stage_of here (ready.GivenHead flow) ≡ busy at told (response_body server all_sent most) = is in cc)
+return_first (ready.GivenBody flow) here at told server most head is first = absurd (let no : stage_of here (ready.GivenBody flow) ≡ busy at told (response_body server all_sent most) = is in cc)
+return_first ready.Idle here at told server most head is first = absurd (let no : stage_of here ready.Idle ≡ busy at told (response_body server all_sent most) = is in cc)
+return_first (ready.Connects address) here at told server most head is first = absurd (let no : stage_of here (ready.Connects address) ≡ busy at told (response_body server all_sent most) = is in cc)
+return_first ready.Over here at told server most head is first = absurd (let no : stage_of here ready.Over ≡ busy at told (response_body server all_sent most) = is in cc)
 
 -- ---- the readers where it leads
 
 -- in the sight behind the reply they are where the stage looks
-abbrev LedTo : Stage → Sight → ℕ → State → Option Link → Stage → Type 0
-LedTo from seen moment requests side to =
-    HasRequest to (sight_behind from seen moment to) [] (requests_behind to requests) × HasSide to (sight_behind from seen moment to) [] [] (side_behind (dials_at from) to side)
+abbrev LedTo : Stage → Sight → ℕ → State → Option Link → Wanted → Stage → Type 0
+LedTo from seen moment requests side looked to =
+    HasRequest to (sight_behind from seen moment to) [] (requests_behind to requests) × HasSide to (sight_behind from seen moment to) none_sent looked (side_behind (dials_at from) to side)
 
 -- the parked side stays
 kept_parked : (parked : Option Parked) (seen : Sight) (side : Option Link) (client : List ℕ) (closed : Bool) (now : ℕ) → side ≡ parked_link parked seen →
@@ -193,9 +230,9 @@ kept_parked : (parked : Option Parked) (seen : Sight) (side : Option Link) (clie
 kept_parked None seen side client closed now is = refl
 kept_parked (Some parked) seen side client closed now is = is
 
-module _ (terms : Terms) (seen : Sight) (answer : Timed Reply) (requests : State) (side : Option Link) where
+module _ (terms : Terms) (seen : Sight) (answer : Timed Reply) (requests : State) (side : Option Link) (looked : Wanted) (no_content : content_in looked ≡ []) where
   abbrev Led : Stage → Turn Stage Command → Type 0
-  Led from turned = LedTo from seen answer.moment requests side (sequence turned.stage)
+  Led from turned = LedTo from seen answer.moment requests side looked (sequence turned.stage)
 
   taken_head_led : (at : At) (flow : Flow) (expected : Bool) (taken : Taken Request) (head : ReadRequest) → Reads request (asks head ∷ []) seen.client false requests → side ≡ parked_link at.parked seen →
       Led (idle at) (turn_taken_head at flow expected taken answer.moment seen)
@@ -252,7 +289,7 @@ module _ (terms : Terms) (seen : Sight) (answer : Timed Reply) (requests : State
     body_led (bad_head fault) = (tt, tt)
     body_led (bad_body fault head body) = (tt, tt)
 
-  dial_led : (at : At) (flow : Flow) (value : Reply) → Keeps seen.client requests → LedTo (busy at flow connection) seen answer.moment requests side (sequence (dial_leads terms.place at flow value))
+  dial_led : (at : At) (flow : Flow) (value : Reply) → Keeps seen.client requests → LedTo (busy at flow connection) seen answer.moment requests side looked (sequence (dial_leads terms.place at flow value))
   dial_led at flow reply.Dialled keeps = (record { rest = keeps.rest; open_still = keeps.open_still }, unread_reads (is_head flow.request.method) at.dials [] false)
   dial_led at flow (reply.Refused fault) keeps = (tt, tt)
   dial_led at flow (reply.Go told stream) keeps = (tt, tt)
@@ -260,34 +297,51 @@ module _ (terms : Terms) (seen : Sight) (answer : Timed Reply) (requests : State
   dial_led at flow reply.Kill keeps = (tt, tt)
   dial_led at flow reply.Discard keeps = (tt, tt)
 
-  module _ (at : At) (flow : Flow) (server : ℕ) (keeps : Keeps seen.client requests) where
+  module _ (at : At) (flow : Flow) (server : ℕ) (most : Option ℕ) (keeps : Keeps seen.client requests) where
     abbrev heads : Stage
     heads = busy at flow (response_head server all_sent)
 
-    returns_by : (s : Option Link) → IsOpen (ReadsFinal flow.request server seen) s → IsOpen (ReadsReturn flow.request server seen []) s
-    returns_by None is = absurd is
-    returns_by (Some link) is = record { sent = is.sent; head = is.head; marks = []; is_content = refl; final = is.final; is_link = is.is_link }
+    behind_head : (size : Option ℕ) (head : ReadResponse) (told : Flow) (here : At) → told.request ≡ flow.request → head_in (answers_in flow.request seen).final ≡ Some head → HeldFirst (Some (response_of head)) looked →
+        stage_of here looked ≡ busy at told (response_body server all_sent size) → (s : Option Link) → IsOpen (ReadsFinal flow.request server seen) s →
+        IsOpen (ReadsReturn told server size (sight_behind heads seen answer.moment (busy at told (response_body server all_sent size))) (content_in looked) (held_in looked)) s
+    behind_head size head told here same stands first leads None is = absurd is
+    behind_head size head told here same stands first leads (Some link) is =
+        let one : head ≡ is.head = (let e : Some head ≡ Some is.head = sym stands ∙ is.stands in cc) in record {
+          sent = is.sent;
+          head = is.head;
+          marks = [];
+          is_content = no_content;
+          holds = subst (λ h. Holds told size h [] (held_in looked)) one (return_first looked here at told server size head leads first);
+          final = is.final;
+          is_link = subst (λ (m : Request). IsLink m server seen is.sent (answers is.head ∷ []) link) (sym same) is.is_link;
+        }
 
-    taken_answer_led : (told : Flow) (taken : Taken Response) (used : Used) (closed : Bool) → told.request ≡ flow.request → IsOpen (ReadsFinal flow.request server seen) side →
-        Led heads (turn_taken_answer at told server taken answer.moment used closed)
-    taken_answer_led told (GoesOn message) used closed same is_open =
-        (record { rest = keeps.rest; open_still = keeps.open_still }, subst (λ m. IsOpen (ReadsReturn m server (sight_behind heads seen answer.moment (busy at told (response_body server all_sent))) []) side) (sym same) (behind side (returns_by side is_open)))
-      where
-        behind : (s : Option Link) → IsOpen (ReadsReturn flow.request server seen []) s → IsOpen (ReadsReturn flow.request server (sight_behind heads seen answer.moment (busy at told (response_body server all_sent))) []) s
-        behind None is = absurd is
-        behind (Some link) is = record { sent = is.sent; head = is.head; marks = is.marks; is_content = is.is_content; final = is.final; is_link = is.is_link }
-    taken_answer_led told (Responds given) used closed same is_open = (tt, tt)
-    taken_answer_led told Kills used closed same is_open = (tt, tt)
+    taken_answer_led : (size : Option ℕ) (head : ReadResponse) (taken : Taken Response) (used : Used) (closed : Bool) (here : At) → head_in (answers_in flow.request seen).final ≡ Some head →
+        HeldFirst (Some (response_of head)) looked → stage_of here looked ≡ sequence (turn_taken_answer at (with_answer flow (response_of head) seen.now) server size taken answer.moment used closed).stage →
+        IsOpen (ReadsFinal flow.request server seen) side → Led heads (turn_taken_answer at (with_answer flow (response_of head) seen.now) server size taken answer.moment used closed)
+    taken_answer_led size head (GoesOn message) used closed here stands first leads is_open =
+        (record { rest = keeps.rest; open_still = keeps.open_still }, behind_head size head (record (with_answer flow (response_of head) seen.now) { response = Some message }) here refl stands first leads side is_open)
+    taken_answer_led size head (Responds given) used closed here stands first leads is_open = (tt, tt)
+    taken_answer_led size head Kills used closed here stands first leads is_open = (tt, tt)
 
-    answer_led : (item : Item ReadResponse) → IsOpen (ReadsFinal flow.request server seen) side → Led heads (turn_answer at flow server item seen answer)
-    answer_led missing is_open = (tt, tt)
-    answer_led (part head body) is_open = taken_answer_led (with_answer flow (response_of head) seen.now) (taken_at_response_head (response_of head) answer.value) (server_in server seen) seen.closed refl is_open
-    answer_led (complete head body trailers size) is_open = taken_answer_led (with_answer flow (response_of head) seen.now) (taken_at_response_head (response_of head) answer.value) (server_in server seen) seen.closed refl is_open
-    answer_led (bad_head fault) is_open = (tt, tt)
-    answer_led (bad_body fault head body) is_open = taken_answer_led (with_answer flow (response_of head) seen.now) (taken_at_response_head (response_of head) answer.value) (server_in server seen) seen.closed refl is_open
+    head_answered : (head : ReadResponse) (found : Asked) (here : At) → head_in (answers_in flow.request seen).final ≡ Some head → answer_asked flow server (Some head) seen.now ≡ Some found → FirstHeld found looked →
+        stage_of here looked ≡ sequence (turn_answer_head terms at flow server head seen answer).stage → IsOpen (ReadsFinal flow.request server seen) side → Led heads (turn_answer_head terms at flow server head seen answer)
+    head_answered head found here stands found_is first leads is_open =
+        let one : asked.ResponseHead (with_answer flow (response_of head) seen.now) server ≡ found =
+        (let e : Some (asked.ResponseHead (with_answer flow (response_of head) seen.now) server) ≡ Some found = found_is in cc) in
+        taken_answer_led (allowed_by terms.streams answer.value) head (taken_at_response_head (response_of head) answer.value) (server_in server seen) seen.closed here stands
+        (subst (λ f. FirstHeld f looked) (sym one) first) leads is_open
+
+    answer_led : (item : Item ReadResponse) (found : Asked) (here : At) → (answers_in flow.request seen).final ≡ item → answer_asked flow server (head_in item) seen.now ≡ Some found → FirstHeld found looked →
+        stage_of here looked ≡ sequence (turn_answer terms at flow server item seen answer).stage → IsOpen (ReadsFinal flow.request server seen) side → Led heads (turn_answer terms at flow server item seen answer)
+    answer_led missing found here same found_is first leads is_open = (tt, tt)
+    answer_led (part head body) found here same found_is first leads is_open = head_answered head found here (ap head_in same) found_is first leads is_open
+    answer_led (complete head body trailers size) found here same found_is first leads is_open = head_answered head found here (ap head_in same) found_is first leads is_open
+    answer_led (bad_head fault) found here same found_is first leads is_open = (tt, tt)
+    answer_led (bad_body fault head body) found here same found_is first leads is_open = head_answered head found here (ap head_in same) found_is first leads is_open
 
     abbrev returns : Stage
-    returns = busy at flow (response_body server all_sent)
+    returns = busy at flow (response_body server all_sent most)
 
     -- behind its own side a flow leaves none
     finish_led : (stays : Bool) (owed : List Command) → Led returns (record { owed = owed; stage = behind_flow stays (unparked at) })
@@ -348,21 +402,23 @@ module _ (terms : Terms) (seen : Sight) (answer : Timed Reply) (requests : State
   all_is : (how : Sent) → how ≡ all_sent
   all_is all_sent = refl
 
-  led_for : (at : At) (flow : Flow) (doing : Doing) (found : Asked) → asked_for at flow doing seen ≡ Some found → AskedRequest (busy at flow doing) seen requests → AskedSide (busy at flow doing) seen side →
-      Led (busy at flow doing) (turns terms.place at flow doing seen answer)
-  led_for at flow (request_body given) found is keeps parked = body_led at flow given keeps parked (request_in seen)
-  led_for at flow connection found is keeps parked = dial_led at flow answer.value keeps
-  led_for at flow (response_head server all_sent) found is keeps is_open = answer_led at flow server keeps (answers_in flow.request seen).final is_open
-  led_for at flow (response_body server all_sent) found is keeps is_open = returned_led at flow server keeps (answers_in flow.request seen).final is_open
-  led_for at flow (upgraded server) found is keeps is_open = absurd (let no : None ≡ Some found = is in cc)
-  led_for at flow given_head found is keeps parked = given_led at flow keeps parked (given_at flow seen.now).response (given_at flow seen.now) (server_parked at.parked seen) seen.closed
-  led_for at flow given_body found is keeps parked = given_body_led at flow keeps parked flow.response flow (server_parked at.parked seen) seen.closed
+  led_for : (at : At) (flow : Flow) (doing : Doing) (found : Asked) → asked_for at flow doing seen ≡ Some found → AskedRequest (busy at flow doing) seen requests → AskedSide (busy at flow doing) seen side → FirstHeld found looked → (here : At) →
+      stage_of here looked ≡ sequence (turns terms at flow doing seen answer).stage → Led (busy at flow doing) (turns terms at flow doing seen answer)
+  led_for at flow (request_body given) found is keeps parked first here leads = body_led at flow given keeps parked (request_in seen)
+  led_for at flow connection found is keeps parked first here leads = dial_led at flow answer.value keeps
+  led_for at flow (response_head server all_sent) found is keeps is_open first here leads = answer_led at flow server None keeps (answers_in flow.request seen).final found here refl is first leads is_open
+  led_for at flow (response_body server all_sent most) found is keeps is_open first here leads = returned_led at flow server most keeps (answers_in flow.request seen).final is_open
+  led_for at flow (coming_down server how) found is keeps is_open first here leads = absurd (let no : None ≡ Some found = is in cc)
+  led_for at flow (upgraded server) found is keeps is_open first here leads = absurd (let no : None ≡ Some found = is in cc)
+  led_for at flow given_head found is keeps parked first here leads = given_led at flow keeps parked (given_at flow seen.now).response (given_at flow seen.now) (server_parked at.parked seen) seen.closed
+  led_for at flow given_body found is keeps parked first here leads = given_body_led at flow keeps parked flow.response flow (server_parked at.parked seen) seen.closed
 
-  led : (stage : Stage) (found : Asked) → IsAsked terms requests side found stage seen → Led stage (turn terms stage seen answer)
-  led (idle at) found is = head_led at (request_in seen) is.request is.has_side
-  led (busy at flow doing) found is = led_for at flow doing found is.asks is.request is.has_side
-  led (next at) found is = absurd (let no : None ≡ Some found = is.asks in cc)
-  led over found is = absurd (let no : None ≡ Some found = is.asks in cc)
+  led : (stage : Stage) (found : Asked) (here : At) → IsAsked terms requests side found stage seen → FirstHeld found looked → stage_of here looked ≡ sequence (turn terms stage seen answer).stage →
+      Led stage (turn terms stage seen answer)
+  led (idle at) found here is first leads = head_led at (request_in seen) is.request is.has_side
+  led (busy at flow doing) found here is first leads = led_for at flow doing found is.asks is.request is.has_side first here leads
+  led (next at) found here is first leads = absurd (let no : None ≡ Some found = is.asks in cc)
+  led over found here is first leads = absurd (let no : None ≡ Some found = is.asks in cc)
 
 -- what is looked for has its place
 placed_at : (at : At) (looked : Wanted) (sees : Sight) (closed : Bool) → closed ≡ sees.closed → HasPlace (stage_of at looked) sees at closed
@@ -370,7 +426,8 @@ placed_at at ready.Idle sees closed is = record { is_here = refl; client = is }
 placed_at at (ready.RequestBody flow given body) sees closed is = record { is_here = refl; client = is }
 placed_at at (ready.Connection flow) sees closed is = record { is_here = refl; client = is }
 placed_at at (ready.ResponseHead flow server) sees closed is = record { is_here = refl; client = is }
-placed_at at (ready.ResponseBody flow server body) sees closed is = record { is_here = refl; client = is }
+placed_at at (ready.ResponseBody flow server most body held) sees closed is = record { is_here = refl; client = is }
+placed_at at (ready.ComingDown flow server sent) sees closed is = record { is_here = refl; client = is }
 placed_at at (ready.Upgraded flow server) sees closed is = record { is_here = refl; client = is }
 placed_at at (ready.GivenHead flow) sees closed is = record { is_here = refl; client = is }
 placed_at at (ready.GivenBody flow) sees closed is = record { is_here = refl; client = is }
@@ -379,21 +436,20 @@ placed_at at ready.Over sees closed is = tt
 
 -- An answer leads where the chain leads, in the sight that the walk has behind it.
 pub turned : (terms : Terms) (stage : Stage) (seen : Sight) (answer : Timed Reply) (requests : State) (side : Option Link) (found : Asked) (at : At) (looked : Wanted) (closed : Bool) →
-    IsAsked terms requests side found stage seen → stage_of at looked ≡ sequence (turn terms stage seen answer).stage → content_in looked ≡ [] → closed ≡ seen.closed →
+    IsAsked terms requests side found stage seen → stage_of at looked ≡ sequence (turn terms stage seen answer).stage → content_in looked ≡ [] → FirstHeld found looked → closed ≡ seen.closed →
     Turned (sequence (turn terms stage seen answer).stage) (sight_behind stage seen answer.moment (sequence (turn terms stage seen answer).stage)) at
     (requests_behind (stage_of at looked) requests) (side_behind (is_dial found) (stage_of at looked) side) looked closed
-turned terms stage seen answer requests side found at looked closed is leads content shut =
+turned terms stage seen answer requests side found at looked closed is leads content first shut =
     let to : Stage = sequence (turn terms stage seen answer).stage in
     let sees : Sight = sight_behind stage seen answer.moment to in
-    let (has_request, has_side) = led terms seen answer requests side stage found is in
+    let (has_request, has_side) = led terms seen answer requests side looked content stage found at is first leads in
     record {
-      none_sent = none_sent to;
+      sent_none = sent_none to;
       is_ready = record {
         is_stage = leads;
         request = subst (λ s. HasRequest to sees (content_in looked) (requests_behind s requests)) (sym leads) (subst (λ l. HasRequest to sees l (requests_behind to requests)) (sym content) has_request);
-        has_side = subst (λ s. HasSide to sees [] (content_in looked) (side_behind (is_dial found) s side)) (sym leads)
-            (subst (λ d. HasSide to sees [] (content_in looked) (side_behind d to side)) (sym (dial_asked terms stage seen found is.asks))
-            (subst (λ l. HasSide to sees [] l (side_behind (dials_at stage) to side)) (sym content) has_side));
+        has_side = subst (λ s. HasSide to sees none_sent looked (side_behind (is_dial found) s side)) (sym leads)
+            (subst (λ d. HasSide to sees none_sent looked (side_behind d to side)) (sym (dial_asked terms stage seen found is.asks)) has_side);
       };
       place = subst (λ s. HasPlace s sees at closed) leads (placed_at at looked sees closed shut);
     }

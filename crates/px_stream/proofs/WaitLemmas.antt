@@ -21,7 +21,7 @@ use Rattle.px_exchange.specs.Requests.{is_head}
 use Rattle.px_chain.specs.Chain.{http_chain, pass, reached, sequence}
 use Rattle.px_chain.specs.Left.{stages_left}
 use Rattle.px_chain.specs.Sights.{Sight, Standing, UsedBytes, bytes_over, dials_at, shut_over, sight_of, sight_over, sight_with}
-use Rattle.px_chain.specs.Stages.{At, Doing, Parked, Stage, all_sent, busy, connection, given_body, given_head, idle, next, over, request_body, response_body, response_head, side_of, side_parked, upgraded}
+use Rattle.px_chain.specs.Stages.{At, Doing, Parked, Stage, all_sent, busy, coming_down, connection, given_body, given_head, idle, next, over, request_body, response_body, response_head, side_of, side_parked, upgraded}
 use Rattle.px_chain.specs.Streams.{Since, bytes_of, client_closed, is_closed}
 use Rattle.px_chain.proofs.FrontLaws.{now_more}
 use Rattle.px_chain.proofs.SightLaws.{sight_more, within_more}
@@ -35,15 +35,17 @@ use Rattle.px_stream.specs.declared.stream.Stream.{Stream}
 use Rattle.px_stream.specs.Anywhere.{HearsWaiting, IsFew, IsInSequence, MayReach, OpensInTime, Reaches, ReachesThere, Somewhere}
 use Rattle.px_stream.specs.Heard.{IsUnshut, SideAgrees, feeds, side_with}
 use Rattle.px_stream.specs.Looks.{MayLook}
-use Rattle.px_stream.specs.Stands.{IsIn, IsLink, IsOpen, IsPlaced, IsReady, IsSome, Keeps, ReadsLink, awaited_in, awaits, parked_link, stage_of, unread_link}
+use Rattle.px_stream.specs.Passes.{Advances, MayPass}
+use Rattle.px_stream.specs.Stands.{IsIn, IsLink, IsOpen, IsPlaced, IsReady, IsSome, Keeps, ReadsLink, awaited_in, awaits, none_sent, parked_link, stage_of, unread_link}
 use Rattle.px_stream.specs.Tells.{IsDialling, sequence_left}
-use Rattle.px_stream.specs.Turns.{Hears, LooksOnce, TurnsTo, is_dial, side_behind}
-use Rattle.px_stream.proofs.AnywhereLemmas.{looked_asks}
+use Rattle.px_stream.specs.Turns.{Hears, TurnsTo, is_dial, side_behind}
+use Rattle.px_stream.proofs.AnywhereLemmas.{PassesNone, gives_all, looked_asks, none_passes}
 use Rattle.px_stream.proofs.AskLemmas.{dial_asked}
-use Rattle.px_stream.proofs.CallLemmas.{LookedIn, asked_at, at_walked, gives_walked, looked_in, may_look, same_tail, turns_in}
+use Rattle.px_stream.proofs.AdvanceLemmas.{AdvancedTo, advances_to}
+use Rattle.px_stream.proofs.CallLemmas.{asked_at, at_walked, may_look, same_tail, turns_in}
 use Rattle.px_stream.proofs.HearLemmas.{keeps_took, parked_took, placed_on}
 use Rattle.px_stream.proofs.MoveLemmas.{at_most, left_asks}
-use Rattle.px_stream.proofs.TurnLemmas.{none_sent, unread_reads}
+use Rattle.px_stream.proofs.TurnLemmas.{unread_reads}
 
 -- ---- where a dial is awaited
 
@@ -74,7 +76,8 @@ dialling_for : (at : At) (flow : Flow) (doing : Doing) → dials_at (busy at flo
 dialling_for at flow (request_body given) is = absurd (let no : false ≡ true = is in cc)
 dialling_for at flow connection is = record { at = at; flow = flow; stage_is = refl }
 dialling_for at flow (response_head server how) is = absurd (let no : false ≡ true = is in cc)
-dialling_for at flow (response_body server how) is = absurd (let no : false ≡ true = is in cc)
+dialling_for at flow (coming_down server how) is = absurd (let no : false ≡ true = is in cc)
+dialling_for at flow (response_body server how most) is = absurd (let no : false ≡ true = is in cc)
 dialling_for at flow (upgraded server) is = absurd (let no : false ≡ true = is in cc)
 dialling_for at flow given_head is = absurd (let no : false ≡ true = is in cc)
 dialling_for at flow given_body is = absurd (let no : false ≡ true = is in cc)
@@ -303,7 +306,7 @@ module _ (before turned : Stream) (moment : ℕ) (found : Asked) (looked : Wante
     given = record turned { side = side }
 
     ready_in : (made : Terms) (at : At) (flow : Flow) (seen later : Sight) → Connected made at flow seen → later.client ≡ seen.client → later.server ≡ rest → later.shut ≡ false →
-        IsReady turned.at turned.requests side looked (answering made at flow) later []
+        IsReady turned.at turned.requests side looked (answering made at flow) later none_sent
     ready_in made at flow seen later is client come unshut =
         let asked_head : Bool = is_head flow.request.method in
         let opened : side ≡ Some (unread_link at.dials asked_head rest false) = fed ∙ ap (side_with (λ link. record link { responses = feeds rest link.responses })) is.side in
@@ -315,23 +318,26 @@ module _ (before turned : Stream) (moment : ℕ) (found : Asked) (looked : Wante
               (subst (λ b. ReadsLink asked_head at.dials rest b [] [] (unread_link at.dials asked_head rest false)) (sym unshut) (unread_reads asked_head at.dials rest false)));
         }
 
+    pub reach_passes : Somewhere before → MayPass turned.at looked side
+    reach_passes stands = none_passes turned.at looked side (subst PassesNone (sym (somewhere stands).few.stage) tt)
+
     pub reach_looks : Somewhere before → MayLook looked turned.requests side
     reach_looks stands =
         let is = somewhere stands in
         let later : Sight = record { client = is.seen.client; closed = is.seen.closed; server = rest; shut = false; now = moment } in
-        may_look turned.at turned.requests side looked (answering is.made is.at is.flow) later [] (ready_in is.made is.at is.flow is.seen later is.few refl refl refl)
+        may_look turned.at turned.requests side looked (answering is.made is.at is.flow) later none_sent (ready_in is.made is.at is.flow is.seen later is.few refl refl refl)
 
-    module _ (after : Stream) (longer : List Command) (once : LooksOnce given after moment looked between longer) where
+    module _ (after : Stream) (longer : List Command) (once : Advances given after moment looked between longer) where
       reached_in : (made : Terms) (at : At) (flow : Flow) (seen later : Sight) → Connected made at flow seen → later.client ≡ seen.client → later.closed ≡ seen.closed → later.server ≡ rest → later.shut ≡ false →
-          moment ≡ later.now → LookedIn made given after (answering made at flow) later [] between longer
+          moment ≡ later.now → AdvancedTo made after (answering made at flow) later none_sent between longer
       reached_in made at flow seen later is client shut come unshut now =
-          looked_in made given after moment looked between longer (answering made at flow) later [] is.terms now (ready_in made at flow seen later is client come unshut)
+          advances_to made given after moment looked between longer (answering made at flow) later none_sent is.terms now (ready_in made at flow seen later is client come unshut)
           (record { is_here = is.place; client = is.client ∙ sym shut }) once
 
       -- as far as one place tells it
       record Somehow : Type 0 where
         is : AtConnected
-        got : LookedIn is.made given after (answering is.made is.at is.flow) (record { client = is.seen.client; closed = is.seen.closed; server = rest; shut = false; now = moment }) [] between longer
+        got : AdvancedTo is.made after (answering is.made is.at is.flow) (record { client = is.seen.client; closed = is.seen.closed; server = rest; shut = false; now = moment }) none_sent between longer
 
       somehow : Somewhere before → Somehow
       somehow stands =
@@ -354,7 +360,7 @@ module _ (before turned : Stream) (moment : ℕ) (found : Asked) (looked : Wante
           let owed : List Command = connected_owes made.place may.flow may.at.dials in
           let was : IsIn made before (busy may.at may.flow connection) seen = subst (λ s. IsIn made before s seen) may.dialling may.there.is_at.is_in in
           let is = connected made may.at may.flow seen was in
-          let got = subst (λ s. LookedIn made given after s later [] between longer) (sym may.stage)
+          let got = subst (λ s. AdvancedTo made after s later none_sent between longer) (sym may.stage)
           (reached_in made may.at may.flow seen later is (ap (λ n. drop n (bytes_of Client prefix)) may.client) refl may.come may.unshut may.now) in
           let parts : more ≡ owed ++ got.more =
           same_tail out more (owed ++ got.more) (sym grown ∙ (got.grown ∙ (ap (λ l. l ++ got.more) is.owes ∙ append_assoc out owed got.more))) in
@@ -363,11 +369,11 @@ module _ (before turned : Stream) (moment : ℕ) (found : Asked) (looked : Wante
           record {
             is_there = record {
               is_at = at_walked made to prefix later refl after may.within got.is_in;
-              few = subst (λ s. IsFew ahead (pass s later)) (sym may.stage) few_there;
+              few = subst (λ s. IsFew ahead (sequence (pass s later).stage)) (sym may.stage) few_there;
               small = may.there.small;
             };
             gives = λ view. ap (seen_of view) parts ∙ (seen_append view owed got.more
-                ∙ (ap (λ l. seen_of view owed ++ l) (gives_walked made to prefix later refl view [] got.more (ap (λ l. l ++ got.more) (sym (none_sent to.stage)) ∙ got.owes))
+                ∙ (ap (λ l. seen_of view owed ++ l) (gives_all made after to prefix between longer got.more got refl view)
                 ∙ sym (seen_append view owed (owed_over (http_chain sequence made) to prefix))));
           }
 
@@ -381,7 +387,7 @@ module _ (before turned : Stream) (moment : ℕ) (found : Asked) (looked : Wante
       pub reach_asks : Somewhere before → AsksOnly (awaits after) out longer
       reach_asks stands =
           let here = somehow stands in
-          (connected_owes here.is.made.place here.is.flow here.is.at.dials ++ here.got.more, grown_by here, looked_asks here.is.made given after _ _ between longer here.got)
+          (connected_owes here.is.made.place here.is.flow here.is.at.dials ++ here.got.more, grown_by here, looked_asks here.is.made after _ _ between longer here.got)
 
       -- one answer less is left
       pub reach_left : Somewhere before → sequence_left after < sequence_left before

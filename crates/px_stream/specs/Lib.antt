@@ -1,6 +1,8 @@
 pub mod Anywhere
+pub mod Comings
 pub mod Heard
 pub mod Looks
+pub mod Passes
 pub mod Rests
 pub mod Responses
 pub mod Stands

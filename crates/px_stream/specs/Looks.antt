@@ -19,7 +19,9 @@ use Rattle.px_exchange.specs.declared.body.Progress.{Progress}
 use Rattle.px_exchange.specs.declared.body.Progress.TheVariants as progress
 use Rattle.px_exchange.specs.declared.ending.Used.{Used}
 use Rattle.px_exchange.specs.declared.terms.Terms.{Terms}
-use Rattle.px_exchange.specs.Bodies.{HasRead, IsReading}
+use Rattle.px_event.specs.View.{View, seen_of}
+use Rattle.px_write.specs.Error.{fault_message}
+use Rattle.px_exchange.specs.Bodies.{HasRead, IsReading, stop_of}
 use Rattle.px_exchange.specs.Endings.{closed_message, ends_by_fault, ends_early, shut_server, without_response}
 use Rattle.px_exchange.specs.Finds.{is_relayed, look_head, or_leaves}
 use Rattle.px_exchange.specs.Flows.{ask_of, response_of, with_answer, with_body, with_returned}
@@ -28,6 +30,7 @@ use Rattle.px_exchange.specs.Requests.{expects, flow_of, is_http11, judged}
 use Rattle.px_chain.specs.Chain.{Connect, behind, connect_in, given_at, look, so_far}
 use Rattle.px_chain.specs.Sights.{Sight}
 use Rattle.px_chain.specs.Stages.{At, Stage}
+use Rattle.px_stream.specs.declared.coming.Held.{Held}
 use Rattle.px_stream.specs.declared.link.Link.{Link}
 use Rattle.px_stream.specs.declared.phase.Asked.TheVariants as asked
 use Rattle.px_stream.specs.declared.phase.Phase.{Phase}
@@ -150,21 +153,46 @@ returned_gives flow (progress.Whole trailers) content moment used closed = ask_o
 returned_gives flow (progress.Bad fault) content moment used closed = ends_by_fault flow fault moment used closed
 returned_gives flow progress.Missing content moment used closed = where_left closed (ends_early (without_response flow) closed_message moment used true)
 
-abbrev pub returned_phase : Flow → ℕ → Progress → List ℕ → ℕ → Bool → Phase
-returned_phase flow server (progress.Whole trailers) content moment closed = phase.Asked (asked.ResponseBody (with_returned flow content trailers moment) server)
-returned_phase flow server (progress.Bad fault) content moment closed = is_over
-returned_phase flow server progress.Missing content moment closed = unless_left closed (ready.ResponseBody flow server content)
+abbrev pub returned_phase : Flow → ℕ → Option ℕ → Progress → List ℕ → Option Held → ℕ → Bool → Phase
+returned_phase flow server most (progress.Whole trailers) content held moment closed = phase.Asked (asked.ResponseBody (with_returned flow content trailers moment) server)
+returned_phase flow server most (progress.Bad fault) content held moment closed = is_over
+returned_phase flow server most progress.Missing content held moment closed = unless_left closed (ready.ResponseBody flow server most content held)
 
 pub record ReadsMore (got : Progress) (content body : List ℕ) (old new : Link) : Type 0 where
   pub same : new ≡ record old { responses = new.responses }
   pub read : HasRead got old.responses content new.responses body
 
-pub record ReturnFound (flow : Flow) (server : ℕ) (content : List ℕ) (old new : Option Link) (moment : ℕ) (used : Used) (closed : Bool) (out longer : List Command) (next : Phase) : Type 0 where
+pub record ReturnFound (flow : Flow) (server : ℕ) (most : Option ℕ) (content : List ℕ) (held : Option Held) (old new : Option Link) (moment : ℕ) (used : Used) (closed : Bool) (out longer : List Command) (next : Phase) : Type 0 where
   pub got : Progress
   pub body : List ℕ
   pub read : StaysOpen (ReadsMore got content body) old new
   pub gives : longer ≡ out ++ returned_gives flow got body moment used closed
-  pub phase : next ≡ returned_phase flow server got body moment closed
+  pub phase : next ≡ returned_phase flow server most got body held moment closed
+
+-- ---- the end of a response that is streamed: a fault, or the client's close; nothing is said of it to the client
+
+abbrev pub coming_gives : Flow → Option Progress → ℕ → Used → Bool → List Command
+coming_gives flow (Some (progress.Bad fault)) moment used closed = ends_early flow (fault_message fault) moment used closed
+coming_gives flow stop moment used closed = where_left closed (ends_early flow closed_message moment used true)
+
+abbrev pub coming_phase : Flow → ℕ → Response → Option Progress → Bool → Phase
+coming_phase flow server sent (Some (progress.Bad fault)) closed = is_over
+coming_phase flow server sent stop closed = unless_left closed (ready.ComingDown flow server sent)
+
+-- Its reader gave one part more, by which it stops so.
+pub record GaveEnd (stop : Option Progress) (old new : State) : Type 0 where
+  pub gave : GaveNext old new
+  pub stops : stop ≡ stop_of gave.got
+
+pub record EndsBy (stop : Option Progress) (old new : Link) : Type 0 where
+  pub same : new ≡ record old { responses = new.responses }
+  pub ends : GaveEnd stop old.responses new.responses
+
+pub record ComingFound (flow : Flow) (server : ℕ) (sent : Response) (old new : Option Link) (moment : ℕ) (used : Used) (closed : Bool) (out longer : List Command) (next : Phase) : Type 0 where
+  pub stop : Option Progress
+  pub read : StaysOpen (EndsBy stop) old new
+  pub gives : longer ≡ out ++ coming_gives flow stop moment used closed
+  pub phase : next ≡ coming_phase flow server sent stop closed
 
 -- ---- whatever is looked for
 
@@ -189,8 +217,10 @@ LookFound terms at used moment closed (ready.Connection flow) old new side later
     × FoundAtOnce old new (commands.Dial at.dials (dialled_for terms.place flow.request) None ∷ shut_server used) out longer (phase.Asked (asked.Connection flow at.dials)) next
 LookFound terms at used moment closed (ready.ResponseHead flow server) old new side later out longer next =
     (new ≡ old) × AnswerFound flow server side later moment used closed out longer next
-LookFound terms at used moment closed (ready.ResponseBody flow server body) old new side later out longer next =
-    (new ≡ old) × ReturnFound flow server body side later moment used closed out longer next
+LookFound terms at used moment closed (ready.ComingDown flow server sent) old new side later out longer next =
+    (new ≡ old) × ComingFound flow server sent side later moment used closed out longer next
+LookFound terms at used moment closed (ready.ResponseBody flow server most body held) old new side later out longer next =
+    (new ≡ old) × ReturnFound flow server most body held side later moment used closed out longer next
 LookFound terms at used moment closed (ready.GivenHead flow) old new side later out longer next =
     (later ≡ side) × FoundAtOnce old new (ask_of (given_at flow moment) ResponseHead ∷ []) out longer (phase.Asked (asked.GivenHead (given_at flow moment))) next
 LookFound terms at used moment closed (ready.GivenBody flow) old new side later out longer next =
@@ -201,12 +231,13 @@ LookFound terms at used moment closed looked old new side later out longer next 
 abbrev pub MayLook : Wanted → State → Option Link → Type 0
 MayLook (ready.RequestBody flow given body) requests side = IsReading requests
 MayLook (ready.ResponseHead flow server) requests side = IsOpen IsKept side
-MayLook (ready.ResponseBody flow server body) requests side = IsOpen (λ link. IsReading link.responses) side
+MayLook (ready.ResponseBody flow server most body held) requests side = IsOpen (λ link. IsReading link.responses) side
+MayLook (ready.ComingDown flow server sent) requests side = IsOpen (λ link. IsReading link.responses) side
 MayLook looked requests side = ⊤
 
--- What was given before and what was added are what the stage owes in the sight, and the phase is that of the stage.
+-- What was given before and what was added are, in each view, what the stage owes in the sight, and the phase is that of the stage.
 pub record LookedAt (terms : Terms) (at : At) (stage : Stage) (seen : Sight) (requests : State) (side : Option Link) (is_now : Phase) (before out longer : List Command) : Type 0 where
   pub more : List Command
   pub grown : longer ≡ out ++ more
-  pub owes : before ++ more ≡ so_far stage seen ++ found_with (behind stage seen) (look terms stage seen)
+  pub owes : (view : View) → seen_of view (before ++ more) ≡ seen_of view (so_far stage seen ++ found_with (behind stage seen) (look terms stage seen))
   pub phase : PhaseAt (look terms stage seen) terms at requests side is_now stage seen

@@ -10,7 +10,7 @@ use Rattle.px_exchange.specs.declared.place.Place.{Place}
 use Rattle.px_exchange.specs.Requests.{is_head}
 use Rattle.px_chain.specs.Chain.{Connect, connect_in}
 use Rattle.px_chain.specs.Sights.{Sight, client_left, request_in, server_left}
-use Rattle.px_chain.specs.Stages.{Stage, busy, idle, request_body, response_body, response_head, upgraded}
+use Rattle.px_chain.specs.Stages.{Stage, busy, coming_down, idle, request_body, response_body, response_head, upgraded}
 use Rattle.px_stream.specs.Stands.{Passes}
 
 -- A reader that was fed these bytes of a message keeps that rest: what it gave, followed by what the rest tells from where it
@@ -52,12 +52,13 @@ ClientLast place stage seen rest = ⊤
 -- the server's bytes
 abbrev pub ServerWaiting : Stage → Sight → List ℕ → Type 0
 ServerWaiting (busy at flow (response_head server how)) seen rest = IsUnreadAnswer (is_head flow.request.method) seen.server seen.shut rest
-ServerWaiting (busy at flow (response_body server how)) seen rest = IsUnreadAnswer (is_head flow.request.method) seen.server seen.shut rest
+ServerWaiting (busy at flow (response_body server how most)) seen rest = IsUnreadAnswer (is_head flow.request.method) seen.server seen.shut rest
+ServerWaiting (busy at flow (coming_down server how)) seen rest = IsUnreadAnswer (is_head flow.request.method) seen.server seen.shut rest
 ServerWaiting stage seen rest = rest ≡ []
 
 abbrev pub ServerAsked : Stage → Sight → List ℕ → Type 0
 ServerAsked (busy at flow (response_head server how)) seen rest = IsUnreadAnswer (is_head flow.request.method) seen.server seen.shut rest
-ServerAsked (busy at flow (response_body server how)) seen rest = rest ≡ server_left (busy at flow (response_body server how)) seen
+ServerAsked (busy at flow (response_body server how most)) seen rest = rest ≡ server_left (busy at flow (response_body server how most)) seen
 ServerAsked stage seen rest = rest ≡ []
 
 -- and at the end: behind a response of code 101

@@ -2,6 +2,8 @@
 use Rattle.std.specs.Prelude.{◌≡◌, ◌≤◌, ◌+◌, ◌++◌, ℕ, Bool, true, false, List, [], ◌∷◌, length, drop, Option, Some, None, ⊤}
 use Rattle.px_message.specs.declared.flow.Flow.{Flow}
 use Rattle.px_message.specs.declared.request.Request.{Request}
+use Rattle.px_message.specs.declared.response.Response.{Response}
+use Rattle.px_message.specs.Length.{has_no_body}
 use Rattle.px_event.specs.declared.ask.Ask.{Ask}
 use Rattle.px_event.specs.declared.ask.Ask.TheVariants as asking
 use Rattle.px_event.specs.declared.ask.Hook.TheVariants.{RequestHead, RequestBody, ResponseHead, ResponseBody}
@@ -20,13 +22,16 @@ use Rattle.px_exchange.specs.declared.asked.Judged.TheVariants.{Accepted}
 use Rattle.px_exchange.specs.declared.ending.Used.{Used}
 use Rattle.px_exchange.specs.declared.ending.Used.TheVariants.{NoServer, ByServer}
 use Rattle.px_exchange.specs.declared.terms.Terms.{Terms}
+use Rattle.px_parts.specs.Texts.{marks_text}
+use Rattle.px_write.specs.Text.{response_head_text}
 use Rattle.px_exchange.specs.Bodies.{content_of}
 use Rattle.px_exchange.specs.Flows.{hook_of, response_of, with_answer, with_body, with_returned}
 use Rattle.px_exchange.specs.Requests.{is_head, expects, flow_of, judged}
 use Rattle.px_exchange.specs.Texts.{interim_commands}
 use Rattle.px_chain.specs.Chain.{Connect, connect_in, given_at, look, so_far}
 use Rattle.px_chain.specs.Sights.{Sight, Standing, IsWithin, answers_in, client_left, request_in, server_left, sight_over}
-use Rattle.px_chain.specs.Stages.{At, Doing, Parked, Stage, all_sent, busy, connection, given_body, given_head, idle, next, over, place_of, request_body, response_body, response_head, upgraded}
+use Rattle.px_chain.specs.Stages.{At, Doing, Parked, Stage, all_sent, busy, coming_down, connection, given_body, given_head, idle, next, over, place_of, request_body, response_body, response_head, upgraded}
+use Rattle.px_stream.specs.declared.coming.Held.{Held}
 use Rattle.px_stream.specs.declared.link.Link.{Link}
 use Rattle.px_stream.specs.declared.phase.Asked.{Asked}
 use Rattle.px_stream.specs.declared.phase.Asked.TheVariants as asked
@@ -35,6 +40,12 @@ use Rattle.px_stream.specs.declared.phase.Phase.TheVariants as phase
 use Rattle.px_stream.specs.declared.phase.Wanted.{Wanted}
 use Rattle.px_stream.specs.declared.phase.Wanted.TheVariants as ready
 use Rattle.px_stream.specs.declared.stream.Stream.{Stream}
+use Rattle.px_stream.specs.Comings.{framed_by, may_stream, sends_text}
+
+-- something is there
+abbrev pub IsSome : {A : Type 0} → Option A → Type 0
+IsSome (Some x) = ⊤
+IsSome None = ⊥
 
 -- ---- the stage that is looked at
 
@@ -44,7 +55,8 @@ stage_of at ready.Idle = idle at
 stage_of at (ready.RequestBody flow given body) = busy at flow (request_body given)
 stage_of at (ready.Connection flow) = busy at flow connection
 stage_of at (ready.ResponseHead flow server) = busy at flow (response_head server all_sent)
-stage_of at (ready.ResponseBody flow server body) = busy at flow (response_body server all_sent)
+stage_of at (ready.ResponseBody flow server most body held) = busy at flow (response_body server all_sent most)
+stage_of at (ready.ComingDown flow server sent) = busy at flow (coming_down server all_sent)
 stage_of at (ready.Upgraded flow server) = busy at flow (upgraded server)
 stage_of at (ready.GivenHead flow) = busy at flow given_head
 stage_of at (ready.GivenBody flow) = busy at flow given_body
@@ -54,8 +66,18 @@ stage_of at ready.Over = over
 -- the content that was read of a body
 abbrev pub content_in : Wanted → List ℕ
 content_in (ready.RequestBody flow given body) = body
-content_in (ready.ResponseBody flow server body) = body
+content_in (ready.ResponseBody flow server most body held) = body
 content_in looked = []
+
+-- and what is held beside it, of a response that may yet be streamed
+abbrev pub held_in : Wanted → Option Held
+held_in (ready.ResponseBody flow server most body held) = held
+held_in looked = None
+
+-- a response that is streamed, as it is sent
+abbrev pub sent_in : Wanted → Option Response
+sent_in (ready.ComingDown flow server sent) = Some sent
+sent_in looked = None
 
 -- ---- what is asked about: the flow with what was read for it
 
@@ -83,7 +105,8 @@ abbrev pub asked_for : At → Flow → Doing → Sight → Option Asked
 asked_for at flow (request_body given) seen = body_asked flow (request_in seen) seen.now
 asked_for at flow connection seen = Some (asked.Connection flow at.dials)
 asked_for at flow (response_head server sent) seen = answer_asked flow server (head_in (answers_in flow.request seen).final) seen.now
-asked_for at flow (response_body server sent) seen = returned_asked flow server (answers_in flow.request seen).final seen.now
+asked_for at flow (response_body server sent most) seen = returned_asked flow server (answers_in flow.request seen).final seen.now
+asked_for at flow (coming_down server sent) seen = None
 asked_for at flow (upgraded server) seen = None
 asked_for at flow given_head seen = Some (asked.GivenHead (given_at flow seen.now))
 asked_for at flow given_body seen = Some (asked.GivenBody flow)
@@ -152,14 +175,46 @@ pub record ReadsLink (asked_head : Bool) (number : ℕ) (bytes : List ℕ) (shut
 abbrev pub IsLink : Request → ℕ → Sight → List ReadResponse → List Mark → Link → Type 0
 IsLink message server seen sent told link = ReadsLink (is_head message.method) server seen.server seen.shut sent told link
 
--- behind the final head it gave these marks, whose content is this
-pub record ReadsReturn (message : Request) (server : ℕ) (seen : Sight) (content : List ℕ) (link : Link) : Type 0 where
+-- What is held says what was read; where nothing is, the response is never streamed.
+abbrev pub HoldsWhole : Flow → Option ℕ → ReadResponse → Option Response → Type 0
+HoldsWhole flow most head None = ⊤
+HoldsWhole flow most head (Some answer) = may_stream (is_head flow.request.method) (response_of head) answer most ≡ false
+
+abbrev pub Holds : Flow → Option ℕ → ReadResponse → List Mark → Option Held → Type 0
+Holds flow most head marks None = HoldsWhole flow most head flow.response
+Holds flow most head marks (Some held) = IsSome flow.response × (held.read ≡ response_of head) × (held.said.items ≡ marks_text marks)
+
+-- behind the final head it gave these marks, whose content is this, and what is held says them
+pub record ReadsReturn (flow : Flow) (server : ℕ) (most : Option ℕ) (seen : Sight) (content : List ℕ) (held : Option Held) (link : Link) : Type 0 where
   pub sent : List ReadResponse
   pub head : ReadResponse
   pub marks : List Mark
   pub is_content : content ≡ content_of marks
+  pub holds : Holds flow most head marks held
   pub final : is_interim head ≡ false
-  pub is_link : IsLink message server seen sent (answers head ∷ marks) link
+  pub is_link : IsLink flow.request server seen sent (answers head ∷ marks) link
+
+-- The response is streamed, and as its head's hook left it; it is sent as this one.
+pub record IsStreamed (flow : Flow) (head : ReadResponse) (sent : Option Response) : Type 0 where
+  pub response : Response
+  pub is_given : flow.response ≡ Some response
+  pub is_sent : sent ≡ Some (framed_by (response_of head) response)
+  pub has_body : has_no_body response.status (is_head flow.request.method) ≡ false
+
+-- what was sent of it: its head, and what these marks behind it say
+abbrev pub sent_text : Option Response → List Mark → List ℕ
+sent_text None marks = []
+sent_text (Some sent) marks = response_head_text sent ++ marks_text marks
+
+-- behind the final head its reader gave these marks, and what they say was sent
+pub record ReadsDown (flow : Flow) (server : ℕ) (seen : Sight) (is_sent : Option Response) (text : List ℕ) (link : Link) : Type 0 where
+  pub sent : List ReadResponse
+  pub head : ReadResponse
+  pub marks : List Mark
+  pub is_text : text ≡ sent_text is_sent marks
+  pub streamed : IsStreamed flow head is_sent
+  pub final : is_interim head ≡ false
+  pub is_link : IsLink flow.request server seen sent (answers head ∷ marks) link
 
 -- the final head was read
 pub record ReadsFinal (message : Request) (server : ℕ) (seen : Sight) (link : Link) : Type 0 where
@@ -195,22 +250,31 @@ abbrev pub parked_link : Option Parked → Sight → Option Link
 parked_link None seen = None
 parked_link (Some parked) seen = Some (unread_link parked.server false seen.server seen.shut)
 
--- where something is looked for, and these interim responses were sent on
-abbrev pub HasSideFor : At → Flow → Doing → Sight → List ReadResponse → List ℕ → Option Link → Type 0
-HasSideFor at flow (response_head server how) seen sent content side = IsOpen (IsLink flow.request server seen sent []) side
-HasSideFor at flow (response_body server how) seen sent content side = IsOpen (ReadsReturn flow.request server seen content) side
-HasSideFor at flow (upgraded server) seen sent content side = IsOpen (LinkKeeps server seen.server seen.shut) side
-HasSideFor at flow doing seen sent content side = side ≡ parked_link at.parked seen
+-- What was sent on of what a stage looks for: interim responses, and what came of a response that is streamed.
+pub record SentOn : Type 0 where
+  pub interim : List ReadResponse
+  pub text : List ℕ
 
-abbrev pub HasSide : Stage → Sight → List ReadResponse → List ℕ → Option Link → Type 0
-HasSide (idle at) seen sent content side = side ≡ parked_link at.parked seen
-HasSide (busy at flow doing) seen sent content side = HasSideFor at flow doing seen sent content side
-HasSide stage seen sent content side = ⊤
+abbrev pub none_sent : SentOn
+none_sent = record { interim = []; text = [] }
+
+-- where something is looked for, and this was sent on
+abbrev pub HasSideFor : At → Flow → Doing → Sight → SentOn → Wanted → Option Link → Type 0
+HasSideFor at flow (response_head server how) seen sent looked side = IsOpen (IsLink flow.request server seen sent.interim []) side
+HasSideFor at flow (response_body server how most) seen sent looked side = IsOpen (ReadsReturn flow server most seen (content_in looked) (held_in looked)) side
+HasSideFor at flow (coming_down server how) seen sent looked side = IsOpen (ReadsDown flow server seen (sent_in looked) sent.text) side
+HasSideFor at flow (upgraded server) seen sent looked side = IsOpen (LinkKeeps server seen.server seen.shut) side
+HasSideFor at flow doing seen sent looked side = side ≡ parked_link at.parked seen
+
+abbrev pub HasSide : Stage → Sight → SentOn → Wanted → Option Link → Type 0
+HasSide (idle at) seen sent looked side = side ≡ parked_link at.parked seen
+HasSide (busy at flow doing) seen sent looked side = HasSideFor at flow doing seen sent looked side
+HasSide stage seen sent looked side = ⊤
 
 -- and where an answer is awaited
 abbrev pub AskedSideFor : At → Flow → Doing → Sight → Option Link → Type 0
 AskedSideFor at flow (response_head server how) seen side = IsOpen (ReadsFinal flow.request server seen) side
-AskedSideFor at flow (response_body server how) seen side = IsOpen (LinkKeeps server (server_left (busy at flow (response_body server how)) seen) seen.shut) side
+AskedSideFor at flow (response_body server how most) seen side = IsOpen (LinkKeeps server (server_left (busy at flow (response_body server how most)) seen) seen.shut) side
 AskedSideFor at flow doing seen side = side ≡ parked_link at.parked seen
 
 abbrev pub AskedSide : Stage → Sight → Option Link → Type 0
@@ -225,11 +289,11 @@ used_in (Some link) = ByServer link.server link.closed
 
 -- ---- all of a state
 
--- it looks for what the stage awaits, where these interim responses were sent on
-pub record IsReady (at : At) (requests : State) (side : Option Link) (looked : Wanted) (stage : Stage) (seen : Sight) (sent : List ReadResponse) : Type 0 where
+-- it looks for what the stage awaits, where this was sent on
+pub record IsReady (at : At) (requests : State) (side : Option Link) (looked : Wanted) (stage : Stage) (seen : Sight) (sent : SentOn) : Type 0 where
   pub is_stage : stage_of at looked ≡ stage
   pub request : HasRequest stage seen (content_in looked) requests
-  pub has_side : HasSide stage seen sent (content_in looked) side
+  pub has_side : HasSide stage seen sent looked side
 
 -- it awaits the answer to what the stage asks
 pub record IsAsked (terms : Terms) (requests : State) (side : Option Link) (found : Asked) (stage : Stage) (seen : Sight) : Type 0 where
@@ -237,12 +301,13 @@ pub record IsAsked (terms : Terms) (requests : State) (side : Option Link) (foun
   pub request : AskedRequest stage seen requests
   pub has_side : AskedSide stage seen side
 
--- the interim responses that a stage has sent on
-abbrev pub sent_for : Flow → Doing → List ReadResponse → List Command
-sent_for flow (response_head server how) sent = interim_commands flow.request sent
+-- what a stage has sent on, where it has
+abbrev pub sent_for : Flow → Doing → SentOn → List Command
+sent_for flow (response_head server how) sent = interim_commands flow.request sent.interim
+sent_for flow (coming_down server how) sent = sends_text sent.text
 sent_for flow doing sent = []
 
-abbrev pub sent_on : Stage → List ReadResponse → List Command
+abbrev pub sent_on : Stage → SentOn → List Command
 sent_on (busy at flow doing) sent = sent_for flow doing sent
 sent_on stage sent = []
 
@@ -271,7 +336,7 @@ IsLast terms stage seen requests side last = last ≡ ready.Over
 
 abbrev pub PhaseAt : Look Command → Terms → At → State → Option Link → Phase → Stage → Sight → Type 0
 PhaseAt NotYet terms at requests side found stage seen =
-    (looked : Wanted) × (sent : List ReadResponse) × (found ≡ phase.Ready looked) × IsReady at requests side looked stage seen sent
+    (looked : Wanted) × (sent : SentOn) × (found ≡ phase.Ready looked) × IsReady at requests side looked stage seen sent
     × (so_far stage seen ≡ sent_on stage sent)
 PhaseAt (Asks ask) terms at requests side found stage seen = (awaits : Asked) × (found ≡ phase.Asked awaits) × IsAsked terms requests side awaits stage seen
 PhaseAt (Ends owed) terms at requests side found stage seen = (last : Wanted) × (found ≡ phase.Ready last) × IsLast terms stage seen requests side last
@@ -320,8 +385,3 @@ is_last (phase.Ready ready.Over) = true
 is_last (phase.Ready (ready.Connects address)) = true
 is_last (phase.Ready (ready.Upgraded flow server)) = true
 is_last _ = false
-
--- something is there
-abbrev pub IsSome : {A : Type 0} → Option A → Type 0
-IsSome (Some x) = ⊤
-IsSome None = ⊥

@@ -24,7 +24,8 @@ use Rattle.px_stream.specs.declared.phase.Phase.{Phase}
 use Rattle.px_stream.specs.declared.phase.Phase.TheVariants as phase
 use Rattle.px_stream.specs.declared.phase.Wanted.TheVariants as ready
 use Rattle.px_stream.specs.declared.stream.Stream.{Stream}
-use Rattle.px_stream.specs.Stands.{content_in, stage_of}
+use Rattle.px_stream.specs.declared.coming.Held.{Held}
+use Rattle.px_stream.specs.Stands.{content_in, held_in, stage_of}
 
 -- ---- what became of it: where the walk stopped, and so in its phase
 
@@ -110,14 +111,15 @@ left_by at (phase.Ready looked) = stages_left (stage_of at looked)
 abbrev pub sequence_left : Stream → ℕ
 sequence_left state = left_by state.at state.phase
 
--- ---- how many bytes it keeps: what the client's reader keeps, and the reader of the side that a flow uses, and the content that has come of a body
+-- ---- how many bytes it keeps: what the client's reader keeps, and the reader of the side that a flow uses, the content that has come of a body, and what is held beside it of a response that may yet be streamed
 -- What does not count is the flow itself with its messages (a response that was given in place of the server's among them),
 -- addresses, and the bytes that wait: behind a message, of which a reader says that it does not keep them, and all that was heard of a side
 -- that is parked.
 
 abbrev pub uses_side : Phase → Bool
 uses_side (phase.Ready (ready.ResponseHead flow server)) = true
-uses_side (phase.Ready (ready.ResponseBody flow server body)) = true
+uses_side (phase.Ready (ready.ResponseBody flow server most body held)) = true
+uses_side (phase.Ready (ready.ComingDown flow server sent)) = true
 uses_side (phase.Ready (ready.Upgraded flow server)) = true
 uses_side (phase.Asked (asked.ResponseHead flow server)) = true
 uses_side (phase.Asked (asked.ResponseBody flow server)) = true
@@ -127,12 +129,20 @@ abbrev pub content_at : Phase → List ℕ
 content_at (phase.Ready looked) = content_in looked
 content_at (phase.Asked found) = []
 
+abbrev pub held_text : Option Held → List ℕ
+held_text None = []
+held_text (Some held) = held.said.items
+
+abbrev pub held_at : Phase → List ℕ
+held_at (phase.Ready looked) = held_text (held_in looked)
+held_at (phase.Asked found) = []
+
 abbrev pub side_keeps : Bool → Option Link → ℕ
 side_keeps true (Some link) = keeps link.responses
 side_keeps uses side = 0
 
 abbrev pub stream_keeps : Stream → ℕ
-stream_keeps state = keeps state.requests + (length (content_at state.phase) + side_keeps (uses_side state.phase) state.side)
+stream_keeps state = keeps state.requests + ((length (content_at state.phase) + length (held_at state.phase)) + side_keeps (uses_side state.phase) state.side)
 
 -- what waits of the side that a flow uses
 abbrev pub side_rest : Bool → Option Link → List ℕ

@@ -93,12 +93,7 @@ pub(crate) fn follow_side(
             keep_parked(&at.parked, side);
             Ok(Wanted::GivenBody { flow })
         }
-        Wanted::ResponseBody { flow, server, body } => {
-            Ok(Wanted::ResponseBody { flow, server, body })
-        }
-        Wanted::Upgraded { flow, server } => Ok(Wanted::Upgraded { flow, server }),
-        Wanted::Connects { address } => Ok(Wanted::Connects { address }),
-        Wanted::Over => Ok(Wanted::Over),
+        other => Ok(other),
     }
 }
 

@@ -32,16 +32,26 @@
 //! its responses begin with. A request that goes elsewhere is dialled for, and the parked side is closed right behind that dial; so it
 //! is where the conversation ends before. One server's side at most is open: the one that a flow uses, or the one that is parked.
 //!
+//! A response may be streamed: sent as it comes, framed as it was read, with no question about it behind its head's. Whether it is may show only as its
+//! body comes, where the reply about its head allows a size and the body has no stated length, or a larger one: what its parts say is then held beside
+//! its content (`Wanted::ResponseBody`, `coming`). Where it is, its head goes out with what was held, and later what each call brought
+//! (`Wanted::ComingDown`); where all has come its flow is finished. All of that needs no answer: so each call first passes (`passing`), by which the next
+//! request's head may be what is looked for, and then looks once. Say that a hook allows 4 bytes of `Transfer-Encoding: chunked`: `3` CRLF `abc` CRLF is held,
+//! and with `2` CRLF `de` CRLF behind it the head and both chunks are sent in one text; then `0` CRLF CRLF is the last of it, and the flow is done. What is due is
+//! one text, of which each call sends a piece: so what is given and what is owed are equal in each view (`specs/Passes.antt`).
+//!
 //! `laws` says that the machine follows the chain, step by step.
 #![tactic(auto)]
 
 mod at;
+mod coming;
 mod following;
 mod hearing;
 pub mod laws;
 mod leaving;
 mod link;
 mod looking;
+mod passing;
 mod phase;
 mod reading;
 mod sizes;

@@ -11,6 +11,7 @@ ghost use Rattle.px_stream.specs.Looks.{LookFound, MayLook, is_over};
 use crate::at::At;
 use crate::link::Link;
 use crate::looking::answer::{look_for_answer, look_for_returned};
+use crate::looking::coming::look_for_end;
 use crate::looking::request::{look_for_body, look_for_head};
 use crate::phase::{Asked, Phase, Wanted};
 use px_event::{Command, Hook};
@@ -24,6 +25,7 @@ use px_read::MessageReader;
 use px_text::NoMemory;
 
 mod answer;
+mod coming;
 mod request;
 
 /// Looks once.
@@ -46,8 +48,15 @@ pub fn look(
         }
         Wanted::Connection { flow } => dial(&terms.place, now, at.dials, flow, out),
         Wanted::ResponseHead { flow, server } => look_for_answer(now, side, flow, server, out),
-        Wanted::ResponseBody { flow, server, body } => {
-            look_for_returned(now, side, flow, server, body, out)
+        Wanted::ResponseBody {
+            flow,
+            server,
+            most,
+            body,
+            held,
+        } => look_for_returned(now, side, flow, server, most, body, held, out),
+        Wanted::ComingDown { flow, server, sent } => {
+            look_for_end(now, side, flow, server, sent, out)
         }
         Wanted::GivenHead { flow } => ask_given_head(now, flow, out),
         Wanted::GivenBody { flow } => ask_given_body(now, flow, out),

@@ -2,6 +2,7 @@
 ghost use Rattle.std.specs.Prelude.{◌≡◌};
 ghost use Rattle.px_stream.specs.Stands.{asked_of, awaited_in};
 
+use crate::coming::Held;
 use px_event::{Ask, Hook};
 use px_exchange::Boxed;
 use px_exchange::content::Content;
@@ -28,11 +29,20 @@ pub enum Wanted {
         flow: Boxed<Flow>,
         server: u32,
     },
-    /// The response's body.
+    /// The response's body, of which no more is kept than the answer to the hook of its head allowed, if it told a size; and what is held
+    /// of it where it may yet be streamed.
     ResponseBody {
         flow: Boxed<Flow>,
         server: u32,
+        most: Option<u64>,
         body: Content,
+        held: Option<Held>,
+    },
+    /// The rest of a response that is streamed, as it is sent: framed as it was read. What came of it was sent, and nothing of it is kept.
+    ComingDown {
+        flow: Boxed<Flow>,
+        server: u32,
+        sent: Shared<Response>,
     },
     /// Nothing: a response of code 101 was sent, and what follows on both sides is of another protocol.
     Upgraded {

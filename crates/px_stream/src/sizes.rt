@@ -1,6 +1,6 @@
 //! How much the parts of a stream keep, and what waits in them.
 ghost use Rattle.std.specs.Prelude.{◌≡◌, ◌-◌, ◌^◌, length, min};
-ghost use Rattle.px_stream.specs.Tells.{content_at, side_keeps, uses_side};
+ghost use Rattle.px_stream.specs.Tells.{content_at, held_at, side_keeps, uses_side};
 
 use crate::link::Link;
 use crate::phase::{Asked, Phase, Wanted};
@@ -12,6 +12,7 @@ pub(crate) fn uses_side(phase: &Phase) -> bool
     match phase {
         Phase::Ready(Wanted::ResponseHead { .. }) => true,
         Phase::Ready(Wanted::ResponseBody { .. }) => true,
+        Phase::Ready(Wanted::ComingDown { .. }) => true,
         Phase::Ready(Wanted::Upgraded { .. }) => true,
         Phase::Asked(Asked::ResponseHead { .. }) => true,
         Phase::Asked(Asked::ResponseBody { .. }) => true,
@@ -27,6 +28,22 @@ pub(crate) fn content_len(phase: &Phase) -> usize
     match phase {
         Phase::Ready(Wanted::RequestBody { body, .. }) => body.len(),
         Phase::Ready(Wanted::ResponseBody { body, .. }) => body.len(),
+        Phase::Ready(_) => 0,
+        Phase::Asked(_) => 0,
+    }
+}
+
+/// How long what is held of a body is, beside its content.
+pub(crate) fn held_len(phase: &Phase) -> usize
+    ensures { result ≡ length (held_at phase.now) }
+{
+    match phase {
+        Phase::Ready(
+            Wanted::ResponseBody {
+                held: Some(held),
+                ..
+            },
+        ) => held.said.len(),
         Phase::Ready(_) => 0,
         Phase::Asked(_) => 0,
     }

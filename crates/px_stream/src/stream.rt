@@ -1,7 +1,7 @@
 //! One flow after the other: the readers of both sides, and where the present flow stands.
 //!
-//! Each event goes to the reader of its side, and then the flow looks once: where it finds an ask it waits, and where it
-//! finds the end it says what is owed there. A reply leads to what is looked for next; where a flow is finished that is the next one's head.
+//! Each event goes to the reader of its side. Then the flow goes on as far as it needs no answer, where a response is streamed, and looks once: where
+//! it finds an ask it waits, and where it finds the end it says what is owed there. A reply leads to what is looked for next; where a flow is finished that is the next one's head.
 //!
 //! One server's side is open at most: the flow's own, or one that is parked, which is heard and not read, until a request goes there, or
 //! another server is dialled.
@@ -20,6 +20,7 @@ ghost use Rattle.px_stream.specs.Anywhere.{Begins, GoesOnWith, HearsWaiting, IsI
 ghost use Rattle.px_stream.specs.Rests.{LeavesRests};
 ghost use Rattle.px_stream.specs.Stands.{IsSome, awaited_in, awaits, is_last, stage_of, used_in};
 ghost use Rattle.px_stream.specs.Tells.{IsDialling, IsSideBelow, asked_tunnel, dialled_flow, is_end, is_idle, led_by, led_to, open_parked, outcome_at, outcome_in, phase_flow, sequence_left, server_dialled, side_rest, stream_keeps, upgraded_side, uses_side};
+ghost use Rattle.px_stream.specs.Passes.{Advances, MayPass, PassesOnce, is_passing};
 ghost use Rattle.px_stream.specs.Turns.{Hears, LooksOnce, TurnsTo, is_dial, requests_behind, side_behind};
 ghost use Rattle.px_stream.specs.Looks.{MayLook};
 
@@ -29,8 +30,9 @@ use crate::hearing::hear;
 use crate::leaving::{enter, take_asked, take_looked};
 use crate::link::{self, Link};
 use crate::looking::look;
+use crate::passing::{is_passing, pass};
 use crate::phase::{Asked, Phase, Wanted};
-use crate::sizes::{content_len, side_size, uses_side};
+use crate::sizes::{content_len, held_len, side_size, uses_side};
 use crate::turning::turn;
 use px_event::{Ask, Command, Event, Reply, Rests};
 use px_exchange::ending::Used;
@@ -56,7 +58,8 @@ pub struct Stream {
 
 impl Stream {
     /// The flows of a client there, whose requests go to this place. The first one has this number, and the next server that is dialled is the
-    /// one of number `next_server`. Where a side of the place is connected already, it is parked, and its number is below that one.
+    /// one of number `next_server`. Where a side of the place is connected already, it is parked, and its number is below that one. Bodies are
+    /// streamed where an answer allows it and `streams` says so.
     ///
     /// It stands where flows in sequence begin, and awaits nothing.
     pub fn new(
@@ -65,12 +68,13 @@ impl Stream {
         client: Option<Address>,
         place: Place,
         next_server: u32,
+        streams: bool,
     ) -> Result<Stream, NoMemory>
         requires few { id.index < 1000000 }
         requires side { IsSideBelow place next_server }
         ensures stands { IfOk result (λ made. (ahead : ℕ) → next_server ≤ id.index + ahead → ahead ≤ 1 →
             IsInSequence made.terms ahead made (first (idle made.at)) []) }
-        ensures terms { IfOk result (λ made. made.terms ≡ terms_of id.conv client place) }
+        ensures terms { IfOk result (λ made. made.terms ≡ record (terms_of id.conv client place) { streams = streams }) }
         ensures at { IfOk result (λ made. made.at ≡ record { flow = id.index; dials = next_server; parked = parked_of place }) }
         ensures new { IfOk result (λ made. IsNew made) }
         ensures free { IfOk result (λ made. awaits made ≡ None) }
@@ -83,6 +87,7 @@ impl Stream {
                 conv: id.conv,
                 client,
                 place,
+                streams,
             },
             at: At {
                 flow: id.index,
@@ -195,15 +200,16 @@ impl Stream {
         self.phase.waiting()
     }
 
-    /// How many bytes it keeps, or 2^64 - 1 where that is more: what its readers keep, and the content that has come of the
-    /// body that it reads. The flow does not count, nor do bytes that wait behind a message, or of a side that is parked.
+    /// How many bytes it keeps, or 2^64 - 1 where that is more: what its readers keep, the content that has come of the body that it
+    /// reads, and what is held beside that of a response that may yet be streamed. The flow does not count, nor do bytes that wait behind a message, or of a side that is parked.
     pub fn kept(&self) -> usize
         ensures { result ≡ min (stream_keeps self.now) (2 ^ 64 - 1) }
     {
         let side = side_size(uses_side(&self.phase), &self.side);
+        let body = content_len(&self.phase).saturating_add(held_len(&self.phase));
         self.requests
             .kept()
-            .saturating_add(content_len(&self.phase).saturating_add(side))
+            .saturating_add(body.saturating_add(side))
     }
 
     /// Hears what the client sent behind what others read of it, before the stream was made, and whether it has closed, and what the
@@ -289,13 +295,41 @@ impl Stream {
         )
     }
 
-    // Looks, where no answer is awaited.
+    // Goes on without an answer, and looks.
     fn advance(
         &mut self,
         moment: u64,
         ready: Wanted,
         out: &mut Vec<Command>,
     ) -> Result<(), NoMemory>
+        requires passes { MayPass self.old.at ready self.old.side }
+        requires looks { is_passing ready ≡ false → MayLook ready self.old.requests self.old.side }
+        ensures { OnOk result (Advances self.old self.new moment ready out.old.items out.new.items) }
+    {
+        let ready = self.pass(moment, ready, out)?;
+        self.look(moment, ready, out)
+    }
+
+    // Goes on without an answer: its readers are then where what follows is looked for.
+    fn pass(
+        &mut self,
+        moment: u64,
+        ready: Wanted,
+        out: &mut Vec<Command>,
+    ) -> Result<Wanted, NoMemory>
+        requires { MayPass self.old.at ready self.old.side }
+        ensures { IfOk result (λ next. PassesOnce self.old self.new moment ready next out.old.items out.new.items) }
+    {
+        if !is_passing(&ready) {
+            return Ok(ready);
+        }
+        let now = self.now(moment);
+        let next = pass(now, &mut self.at, &mut self.side, ready, out)?;
+        self.follow(false, next)
+    }
+
+    // Looks, where no answer is awaited.
+    fn look(&mut self, moment: u64, ready: Wanted, out: &mut Vec<Command>) -> Result<(), NoMemory>
         requires { MayLook ready self.old.requests self.old.side }
         ensures { OnOk result (LooksOnce self.old self.new moment ready out.old.items out.new.items) }
     {
@@ -358,7 +392,7 @@ impl Stream {
     {
         let now = self.now(moment);
         let dialled = is_dial(&asked);
-        let ready = turn(&self.terms.place, now, &mut self.at, asked, reply, out)?;
+        let ready = turn(&self.terms, now, &mut self.at, asked, reply, out)?;
         self.follow(dialled, ready)
     }
 

@@ -3,14 +3,18 @@ ghost use Rattle.std.specs.Prelude.{◌≡◌, ◌<◌, ◌+◌, ◌++◌, ◌==
 ghost use Rattle.px_exchange.specs.Dials.{connected_owes, dial_owes};
 ghost use Rattle.px_exchange.specs.Replies.{taken_at_body_of, taken_at_head_of, taken_at_request_body, taken_at_request_head};
 ghost use Rattle.px_chain.specs.Chain.{behind_flow, dial_leads, finish as finishes, finish_by, goes_on_by, killed, parked_for, reached, sequence, turn_taken_answer, turn_taken_body, turn_taken_given, turn_taken_head, turn_taken_returned, turn_taken_whole, upgrade as upgrades};
+ghost use Rattle.px_chain.specs.Coming.{allowed_by};
 ghost use Rattle.px_chain.specs.Sights.{Sight, server_parked};
+ghost use Rattle.px_exchange.specs.Requests.{is_head};
 ghost use Rattle.px_chain.specs.Stages.{unparked};
 ghost use Rattle.px_stream.specs.Stands.{content_in, stage_of};
-ghost use Rattle.px_stream.specs.Turns.{Shows, asked_turn, taken_turn};
+ghost use Rattle.px_stream.specs.Turns.{FirstHeld, HeldFirst, IsHeldBehind, Shows, asked_turn, taken_turn};
 
 use crate::at::{At, Parked};
+use crate::coming::{Held, hold};
 use crate::phase::{Asked, Wanted};
 use px_event::{Command, Reply, Side};
+use px_exchange::asked::is_head as asks_head;
 use px_exchange::content::Content;
 use px_exchange::ending::{Used, end_by_fault, end_early, finish, settled};
 use px_exchange::flows::{self, server_for};
@@ -18,15 +22,16 @@ use px_exchange::said::{meet_expectation, send};
 use px_exchange::taken::{
     Taken, take_at_body_of, take_at_head_of, take_at_request_body, take_at_request_head,
 };
-use px_exchange::terms::Now;
+use px_exchange::terms::{Now, Terms};
 use px_exchange::texts::{onward_text, returned_text};
 use px_exchange::{Boxed, Place};
 use px_message::{Flow, Request, Response, Shared};
 use px_text::NoMemory;
+use std::alloc::Global;
 
-/// Takes the answer to what was asked at this place of a conversation, whose requests go there.
+/// Takes the answer to what was asked at this place of a conversation, on these terms.
 pub fn turn(
-    place: &Place,
+    terms: &Terms,
     now: Now,
     at: &mut At,
     asked: Asked,
@@ -36,16 +41,25 @@ pub fn turn(
     requires few { at.old.flow < 1000000 }
     requires dials { at.old.dials < 4294967295 }
     ensures gives { (seen : Sight) → Shows at.old asked now.parked now.client_closed seen →
-        OnOk result (out.new.items ≡ out.old.items ++ (asked_turn place.now at.old asked seen now.parked now.client_closed (record { moment = now.moment; value = reply })).owed) }
+        OnOk result (out.new.items ≡ out.old.items ++ (asked_turn terms.now at.old asked seen now.parked now.client_closed (record { moment = now.moment; value = reply })).owed) }
     ensures leads { (seen : Sight) → Shows at.old asked now.parked now.client_closed seen →
-        IfOk result (λ next. stage_of at.new next ≡ sequence (asked_turn place.now at.old asked seen now.parked now.client_closed (record { moment = now.moment; value = reply })).stage) }
+        IfOk result (λ next. stage_of at.new next ≡ sequence (asked_turn terms.now at.old asked seen now.parked now.client_closed (record { moment = now.moment; value = reply })).stage) }
     ensures content { IfOk result (λ next. content_in next ≡ []) }
+    ensures held { IfOk result (λ next. FirstHeld asked next) }
 {
     match asked {
         Asked::Idle { flow, expects } => turn_head(now, at, flow, expects, reply, out),
-        Asked::RequestBody { flow } => turn_body(place, now, at, flow, reply, out),
-        Asked::Connection { flow, .. } => turn_dial(place, now, at, flow, reply, out),
-        Asked::ResponseHead { flow, server } => turn_answer(now, at, flow, server, reply, out),
+        Asked::RequestBody { flow } => turn_body(&terms.place, now, at, flow, reply, out),
+        Asked::Connection { flow, .. } => turn_dial(&terms.place, now, at, flow, reply, out),
+        Asked::ResponseHead { flow, server } => turn_answer(
+            terms.streams,
+            now,
+            at,
+            flow,
+            server,
+            reply,
+            out,
+        ),
         Asked::ResponseBody { flow, server } => turn_returned(now, at, flow, server, reply, out),
         Asked::GivenHead { flow } => turn_given_head(now, at, flow, reply, out),
         Asked::GivenBody { flow } => turn_given_body(now, at, flow, reply, out),
@@ -275,6 +289,7 @@ fn count_server(at: &mut At) -> u32
 
 // The hook of the response's head is answered.
 fn turn_answer(
+    streams: bool,
     now: Now,
     at: &mut At,
     flow: Boxed<Flow>,
@@ -282,13 +297,34 @@ fn turn_answer(
     reply: Reply,
     out: &mut Vec<Command>,
 ) -> Result<Wanted, NoMemory>
-    ensures gives { OnOk result (out.new.items ≡ out.old.items ++ (taken_turn (taken_at_head_of flow.response reply) (λ taken. turn_taken_answer at.old flow server taken now.moment now.parked now.client_closed)).owed) }
-    ensures leads { IfOk result (λ next. stage_of at.new next ≡ sequence (taken_turn (taken_at_head_of flow.response reply) (λ taken. turn_taken_answer at.old flow server taken now.moment now.parked now.client_closed)).stage) }
+    ensures gives { OnOk result (out.new.items ≡ out.old.items ++ (taken_turn (taken_at_head_of flow.response reply) (λ taken. turn_taken_answer at.old flow server (allowed_by streams reply) taken now.moment now.parked now.client_closed)).owed) }
+    ensures leads { IfOk result (λ next. stage_of at.new next ≡ sequence (taken_turn (taken_at_head_of flow.response reply) (λ taken. turn_taken_answer at.old flow server (allowed_by streams reply) taken now.moment now.parked now.client_closed)).stage) }
     ensures content { IfOk result (λ next. content_in next ≡ []) }
+    ensures held { IfOk result (λ next. HeldFirst flow.response next) }
 {
+    let most = allowed(streams, &reply);
     match take_at_head_of(now.alloc, &flow, reply)? {
-        Some(taken) => receive_response(now, at, flow, server, taken, out),
+        Some(taken) => receive_response(now, at, flow, server, most, taken, out),
         None => Ok(give_up(flow)),
+    }
+}
+
+// The most that is kept of a body, by the answer to its head's hook, in a conversation that streams at all.
+fn allowed(streams: bool, reply: &Reply) -> Option<u64>
+    ensures { result ≡ allowed_by streams reply.now }
+{
+    if !streams {
+        return None;
+    }
+    match reply {
+        Reply::Go { flow, stream } => {
+            if flow.response.is_some() {
+                *stream
+            } else {
+                None
+            }
+        }
+        _ => None,
     }
 }
 
@@ -298,20 +334,48 @@ fn receive_response(
     at: &mut At,
     flow: Boxed<Flow>,
     server: u32,
+    most: Option<u64>,
     taken: Taken<Shared<Response>>,
     out: &mut Vec<Command>,
 ) -> Result<Wanted, NoMemory>
-    ensures gives { OnOk result (out.new.items ≡ out.old.items ++ (turn_taken_answer at.old flow server taken now.moment now.parked now.client_closed).owed) }
-    ensures leads { IfOk result (λ next. stage_of at.new next ≡ sequence (turn_taken_answer at.old flow server taken now.moment now.parked now.client_closed).stage) }
+    ensures gives { OnOk result (out.new.items ≡ out.old.items ++ (turn_taken_answer at.old flow server most taken now.moment now.parked now.client_closed).owed) }
+    ensures leads { IfOk result (λ next. stage_of at.new next ≡ sequence (turn_taken_answer at.old flow server most taken now.moment now.parked now.client_closed).stage) }
     ensures content { IfOk result (λ next. content_in next ≡ []) }
+    ensures held { IfOk result (λ next. HeldFirst flow.response next) }
 {
     match taken {
-        Taken::GoesOn(response) => Ok(Wanted::ResponseBody {
-            flow: flows::with_response(flow, response),
-            server,
-            body: Content::new(now.alloc),
-        }),
+        Taken::GoesOn(response) => {
+            let held = hold_behind(now.alloc, &flow, response.get(), most)?;
+            Ok(Wanted::ResponseBody {
+                flow: flows::with_response(flow, response),
+                server,
+                most,
+                body: Content::new(now.alloc),
+                held,
+            })
+        }
         _ => kill(now, flows::without_response(flow), out),
+    }
+}
+
+// What is held of the body behind the head, whose hook left this response of the one that the flow has.
+fn hold_behind(
+    alloc: Global,
+    flow: &Flow,
+    response: &Response,
+    most: Option<u64>,
+) -> Result<Option<Held>, NoMemory>
+    ensures { IfOk result (λ held. IsHeldBehind (is_head flow.now.request.method) flow.now.response response.now most held) }
+{
+    match &flow.response {
+        Some(read) => Ok(hold(
+            alloc,
+            asks_head(flow.request.get().method.bytes()),
+            read.try_clone()?,
+            response,
+            most,
+        )),
+        None => Ok(None),
     }
 }
 
@@ -499,7 +563,7 @@ fn finish_flow(
 }
 
 // The next flow's head is looked for behind a finished one, where the client's connection goes on.
-fn count_flow(at: &mut At, stays: bool) -> Wanted
+pub(crate) fn count_flow(at: &mut At, stays: bool) -> Wanted
     requires { at.old.flow < 1000000 }
     ensures leads { stage_of at.new result ≡ sequence (behind_flow stays at.old) }
     ensures content { content_in result ≡ [] }

@@ -7,6 +7,7 @@ ghost use Rattle.px_stream.specs.Responses.{IsKept, ReadsAnswer};
 ghost use Rattle.px_stream.specs.Stands.{IsOpen, StaysOpen};
 
 use super::{fail, leave};
+use crate::coming::Held;
 use crate::link::Link;
 use crate::phase::{Asked, Phase, Wanted};
 use crate::reading::{FinalHead, read_answer};
@@ -105,15 +106,17 @@ pub fn look_for_returned(
     side: &mut Option<Link>,
     flow: Boxed<Flow>,
     server: u32,
+    most: Option<u64>,
     body: Content,
+    held: Option<Held>,
     out: &mut Vec<Command>,
 ) -> Result<Phase, NoMemory>
     requires reads { IsOpen (λ link. IsReading link.responses) side.old }
-    ensures looks { IfOk result (λ next. ReturnFound flow server body side.old side.new now.moment now.parked now.client_closed out.old.items out.new.items next) }
+    ensures looks { IfOk result (λ next. ReturnFound flow server most body held side.old side.new now.moment now.parked now.client_closed out.old.items out.new.items next) }
 {
     let mut body = body;
     let progress = read_more(side, &mut body)?;
-    look_at_returned(now, flow, server, progress, body, out)
+    look_at_returned(now, flow, server, most, progress, body, held, out)
 }
 
 // Reads the body that comes on the open side.
@@ -132,29 +135,40 @@ fn look_at_returned(
     now: Now,
     flow: Boxed<Flow>,
     server: u32,
+    most: Option<u64>,
     progress: Progress,
     body: Content,
+    held: Option<Held>,
     out: &mut Vec<Command>,
 ) -> Result<Phase, NoMemory>
     ensures gives { OnOk result (out.new.items ≡ out.old.items ++ returned_gives flow progress body now.moment now.parked now.client_closed) }
-    ensures phase { IfOk result (λ next. next ≡ returned_phase flow server progress body now.moment now.client_closed) }
+    ensures phase { IfOk result (λ next. next ≡ returned_phase flow server most progress body held now.moment now.client_closed) }
 {
     match progress {
         Progress::Whole(trailers) => {
+            drop(held);
             let flow = flows::with_returned(now, flow, body, trailers)?;
             ask(&flow, Hook::ResponseBody, out)?;
             Ok(Phase::Asked(Asked::ResponseBody { flow, server }))
         }
         Progress::Bad(fault) => {
             drop(body);
+            drop(held);
             fail(now, flow, fault, now.parked, out)
         }
         Progress::Missing => {
             if now.client_closed {
                 drop(body);
+                drop(held);
                 return leave(now, flows::without_response(flow), now.parked, out);
             }
-            Ok(Phase::Ready(Wanted::ResponseBody { flow, server, body }))
+            Ok(Phase::Ready(Wanted::ResponseBody {
+                flow,
+                server,
+                most,
+                body,
+                held,
+            }))
         }
     }
 }

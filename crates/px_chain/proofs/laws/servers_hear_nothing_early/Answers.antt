@@ -8,4 +8,4 @@ pub returns-clause-parked : goal.returns-clause-parked
 returns-clause-parked c = λ onward made at server moves goes below few. silent_with onward goes made at below server moves few
 
 pub returns-clause-before_all : goal.returns-clause-before_all
-returns-clause-before_all c = λ onward made at. nothing_yet onward made at
+returns-clause-before_all c = λ onward made at goes. nothing_yet onward goes made at

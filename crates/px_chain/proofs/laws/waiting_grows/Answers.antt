@@ -2,4 +2,4 @@ use Rattle.px_chain.proofs.ChainLaws.{so_far_grows}
 use Rattle.px_chain.proofs.laws.waiting_grows.Goals as goal
 
 pub returns : goal.returns
-returns c = so_far_grows
+returns c = λ onward made view goes. so_far_grows onward goes made view

@@ -8,7 +8,7 @@ use Rattle.px_stream.proofs.laws.answers_lead.Goals as goal
 pub returns-clause-turn : goal.returns-clause-turn
 returns-clause-turn c made stage seen answer found used is uses =
     turn_asked made seen answer stage found is
-    ∙ ap (λ u. asked_turn made.place (place_of stage) found seen u seen.closed answer) (sym (used_asked made stage seen found is) ∙ uses)
+    ∙ ap (λ u. asked_turn made (place_of stage) found seen u seen.closed answer) (sym (used_asked made stage seen found is) ∙ uses)
 
 pub returns-clause-readers : goal.returns-clause-readers
 returns-clause-readers c = turned

@@ -1,12 +1,12 @@
-use Rattle.std.proofs.Common.{refl, sym}
-use Rattle.px_stream.proofs.CallLemmas.{look_as}
+use Rattle.std.proofs.lemmas.Result.{on_ok_weaker}
+use Rattle.px_stream.proofs.PassingLemmas.{may_look_on}
 use Rattle.px_stream.proofs.stream.Stream.advance.Goals as goal
 
+pub look-requires : goal.look-requires
+look-requires c =
+    may_look_on c.args.self.now c.pass.new.self c.args.moment c.args.ready c.in_ok-ready.ready c.args.out.now.items c.pass.new.out.items c.requires.passes c.requires.looks c.in_ok-ready.ensures
+
 pub returns : goal.returns
-returns c = record {
-  terms = refl;
-  at = refl;
-  client = refl;
-  looks = look_as c.args.self.now.terms c.args.self.now.at _ _ c.args.moment _ c.args.self.now.client_closed _ c.args.ready c.args.self.now.requests _ c.args.self.now.side _ c.args.out.now.items _ _ _
-      c.now-now.ensures.parked c.now-now.ensures.moment c.now-now.ensures.client (sym c.enter.ensures) c.in_ok-phase.ensures.looks;
-}
+returns c =
+    on_ok_weaker c.look.result
+    (λ looks. record { between = c.pass.new.self; next = c.in_ok-ready.ready; given = c.pass.new.out.items; passes = c.in_ok-ready.ensures; looks = looks }) c.look.ensures

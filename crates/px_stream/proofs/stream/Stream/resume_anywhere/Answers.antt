@@ -17,9 +17,13 @@ turn-requires-clause-dials c =
     let d = few.dials in
     omega arith
 
-pub advance-requires : goal.advance-requires
-advance-requires c = may_turn c.args.self.now c.args.moment c.args.reply c.take_asked-asked.result c.take_asked-asked.ensures c.requires.somewhere c.turn.new.self c.in_ok-ready.ready c.args.out.now.items c.turn.new.out.items
-    (turn_taken c.args.self.now c.turn.new.self _ c.args.moment c.args.reply c.take_asked-asked.result c.in_ok-ready.ready c.args.out.now.items c.turn.new.out.items c.in_ok-ready.ensures)
+pub advance-requires-clause-passes : goal.advance-requires-clause-passes
+advance-requires-clause-passes c = (may_turn c.args.self.now c.args.moment c.args.reply c.take_asked-asked.result c.take_asked-asked.ensures c.requires.somewhere c.turn.new.self c.in_ok-ready.ready c.args.out.now.items c.turn.new.out.items
+    (turn_taken c.args.self.now c.turn.new.self _ c.args.moment c.args.reply c.take_asked-asked.result c.in_ok-ready.ready c.args.out.now.items c.turn.new.out.items c.in_ok-ready.ensures)).passes
+
+pub advance-requires-clause-looks : goal.advance-requires-clause-looks
+advance-requires-clause-looks c = (may_turn c.args.self.now c.args.moment c.args.reply c.take_asked-asked.result c.take_asked-asked.ensures c.requires.somewhere c.turn.new.self c.in_ok-ready.ready c.args.out.now.items c.turn.new.out.items
+    (turn_taken c.args.self.now c.turn.new.self _ c.args.moment c.args.reply c.take_asked-asked.result c.in_ok-ready.ready c.args.out.now.items c.turn.new.out.items c.in_ok-ready.ensures)).looks
 
 pub returns-clause-resumes : goal.returns-clause-resumes
 returns-clause-resumes c = on_ok_weaker c.advance.result

@@ -2,7 +2,7 @@ use Rattle.std.proofs.Common.{◌≡◌, refl, sym, ap, ◌∙◌, false}
 use Rattle.std.proofs.lemmas.Result.{on_ok_weaker}
 use Rattle.px_stream.specs.declared.phase.Phase.TheVariants as phase
 use Rattle.px_stream.specs.Stands.{is_last}
-use Rattle.px_stream.proofs.CallLemmas.{ended, heard_event, hears_anywhere, looks_heard, take_somewhere, take_somewhere_asks, take_somewhere_left}
+use Rattle.px_stream.proofs.CallLemmas.{advances_heard, ended, heard_event, hears_anywhere, take_somewhere, take_somewhere_asks, take_somewhere_left}
 use Rattle.px_stream.proofs.stream.Stream.take_anywhere.Goals as goal
 
 pub returns-then-ended-clause-takes : goal.returns-then-ended-clause-takes
@@ -30,11 +30,17 @@ hear-requires-clause-agrees c =
     let goes : is_last (phase.Ready c.take_looked-ready.result) ≡ false = ap is_last (sym c.take_looked-ready.ensures) ∙ (sym c.ended.ensures ∙ c.if-ended.false) in
     (hears_anywhere c.args.self.now c.args.event.now c.requires.somewhere c.take_looked-ready.result c.take_looked-ready.ensures goes).agrees
 
-pub advance-requires : goal.advance-requires
-advance-requires c =
+pub advance-requires-clause-passes : goal.advance-requires-clause-passes
+advance-requires-clause-passes c =
     let goes : is_last (phase.Ready c.take_looked-ready.result) ≡ false = ap is_last (sym c.take_looked-ready.ensures) ∙ (sym c.ended.ensures ∙ c.if-ended.false) in
     let may = hears_anywhere c.args.self.now c.args.event.now c.requires.somewhere c.take_looked-ready.result c.take_looked-ready.ensures goes in
-    looks_heard c.args.self.now c.hear.new.self _ c.args.event.now c.take_looked-ready.result may c.in-Ok.ensures.hears
+    (advances_heard c.args.self.now c.hear.new.self _ c.args.event.now c.take_looked-ready.result may c.in-Ok.ensures.hears).passes
+
+pub advance-requires-clause-looks : goal.advance-requires-clause-looks
+advance-requires-clause-looks c =
+    let goes : is_last (phase.Ready c.take_looked-ready.result) ≡ false = ap is_last (sym c.take_looked-ready.ensures) ∙ (sym c.ended.ensures ∙ c.if-ended.false) in
+    let may = hears_anywhere c.args.self.now c.args.event.now c.requires.somewhere c.take_looked-ready.result c.take_looked-ready.ensures goes in
+    (advances_heard c.args.self.now c.hear.new.self _ c.args.event.now c.take_looked-ready.result may c.in-Ok.ensures.hears).looks
 
 pub returns-in-Ok-clause-takes : goal.returns-in-Ok-clause-takes
 returns-in-Ok-clause-takes c = on_ok_weaker c.advance.result

@@ -1,0 +1,489 @@
+-- Where a body is read that may be streamed, or is, the machine passes as the chain does.
+use Rattle.std.proofs.Common.{◌≡◌, ℕ, ◌+◌, Bool, true, false, List, [], ◌∷◌, ◌++◌, length, Option, Some, None, refl, ap, sym, ◌∙◌, subst, arith, append_assoc}
+use Rattle.std.proofs.lemmas.Grind.{flat_map-append}
+use Rattle.std.proofs.lemmas.List.{append-nil}
+use Rattle.px_message.specs.Length.{has_no_body}
+use Rattle.px_message.specs.declared.flow.Flow.{Flow}
+use Rattle.px_message.specs.declared.response.Response.{Response}
+use Rattle.px_event.proofs.Seen.{seen_append}
+use Rattle.px_event.specs.Chain.{Turn}
+use Rattle.px_event.specs.View.{View, course, flows, line, order, questions, seen_of}
+use Rattle.px_event.specs.declared.command.Command.{Command}
+use Rattle.px_event.specs.declared.command.Command.TheVariants as commands
+use Rattle.px_event.specs.declared.side.Side.TheVariants.{Client, Server}
+use Rattle.px_read.specs.Chunks.{Finish, goes_on, whole, fails, Reading}
+use Rattle.px_read.specs.Heads.{is_interim}
+use Rattle.px_read.specs.Items.{body_of, content_in as content_at, item_behind}
+use Rattle.px_read.specs.Laws.{head_in}
+use Rattle.px_read.specs.Marks.{Mark, answers}
+use Rattle.px_read.specs.Readings.{behind_bytes, response_reading}
+use Rattle.px_read.specs.Reader.{Message, Reads, State, before_all, reading_from, request, response, to_come}
+use Rattle.px_read.specs.declared.head.ResponseHead.{ResponseHead as ReadResponse}
+use Rattle.px_write.specs.Text.{response_head_text}
+use Rattle.px_exchange.specs.Bodies.{HasCome, content_of}
+use Rattle.px_exchange.specs.Endings.{finished_streamed, goes_on_behind, shut_unless}
+use Rattle.px_exchange.specs.Flows.{response_of}
+use Rattle.px_exchange.specs.Requests.{is_head}
+use Rattle.px_exchange.specs.declared.body.Progress.{Progress}
+use Rattle.px_exchange.specs.declared.body.Progress.TheVariants as progress
+use Rattle.px_exchange.specs.declared.ending.Used.{Used}
+use Rattle.px_exchange.specs.declared.ending.Used.TheVariants.{NoServer}
+use Rattle.px_parts.proofs.TextLemmas.{marks_both}
+use Rattle.px_parts.specs.Texts.{final_so_far, last_text, marks_text}
+use Rattle.px_chain.proofs.ComingLaws.{in_two}
+use Rattle.px_chain.specs.Chain.{behind_flow, pass, pass_came, pass_kept, past_came, past_kept, sequence, sight_past}
+use Rattle.px_chain.specs.Coming.{Came, as_streamed, came_by, came_in, coming_by, coming_text, framed_as, streaming, streams_in}
+use Rattle.px_chain.specs.Sights.{Sight, answers_in, server_in}
+use Rattle.px_chain.specs.Stages.{At, Stage, all_sent, busy, coming_down, idle, over, response_body, unparked}
+use Rattle.px_stream.specs.declared.coming.Held.{Held}
+use Rattle.px_stream.specs.declared.link.Link.{Link}
+use Rattle.px_stream.specs.declared.phase.Wanted.{Wanted}
+use Rattle.px_stream.specs.declared.phase.Wanted.TheVariants as ready
+use Rattle.px_stream.specs.Comings.{framed_by, sends_text}
+use Rattle.px_stream.specs.Passes.{DownPassed, HasNoMore, HeldPassed, HeldWent, IsPassed, Passed, PassedTo, SaysMore, WentDown, ended_gives, ended_leads, is_passing, streams_by}
+use Rattle.px_stream.specs.Stands.{HasPlace, HasRequest, HasSide, IsLink, IsOpen, IsReady, Keeps, ReadsDown, ReadsLink, ReadsReturn, SentOn, content_in, none_sent, sent_on, stage_of, used_in}
+use Rattle.px_stream.specs.Turns.{requests_behind, side_behind}
+use Rattle.px_stream.proofs.CameLemmas.{finish_of, head_is, item_is, judged, none_left, read_as, streams_has_body, text_is}
+
+-- ---- texts, as the views see them
+
+-- an empty text is not seen
+nothing_sent : (view : View) (rest : List Command) → seen_of view (commands.Send Client [] ∷ rest) ≡ seen_of view rest
+nothing_sent (line Client) rest = refl
+nothing_sent (line (Server side)) rest = refl
+nothing_sent questions rest = refl
+nothing_sent course rest = refl
+nothing_sent flows rest = refl
+nothing_sent order rest = refl
+
+text_sent : (view : View) (text : List ℕ) (rest : List Command) → seen_of view (sends_text text ++ rest) ≡ seen_of view (commands.Send Client text ∷ rest)
+text_sent view [] rest = sym (nothing_sent view rest)
+text_sent view (b ∷ text) rest = refl
+
+-- a text in two sends is seen as in one
+texts_sent : (view : View) (was text : List ℕ) (rest : List Command) → seen_of view (sends_text was ++ (sends_text text ++ rest)) ≡ seen_of view (sends_text (was ++ text) ++ rest)
+texts_sent view [] text rest = refl
+texts_sent view (b ∷ was) [] rest = ap (λ l. seen_of view (commands.Send Client (b ∷ l) ∷ rest)) (sym (append-nil was))
+texts_sent view (b ∷ was) (c ∷ text) rest =
+    seen_append view (commands.Send Client (b ∷ was) ∷ []) (commands.Send Client (c ∷ text) ∷ rest) ∙ sym (in_two view (b ∷ was) (c ∷ text) rest)
+
+-- ---- where a finished flow leads
+
+-- a reader that begins, with these bytes
+no_bytes_by : (f : Finish) → f ≡ behind_bytes 0 f
+no_bytes_by goes_on = refl
+no_bytes_by (whole trailers used) = let e : used ≡ 0 + used = omega arith in ap (λ n. whole trailers n) e
+no_bytes_by (fails fault) = refl
+
+begins_here : (message : Message) (bytes : List ℕ) → Reads message [] bytes false (before_all message bytes false)
+begins_here message bytes = record {
+  closed = refl;
+  used = [];
+  bytes = refl;
+  reading = λ more later follows.
+      let r : Reading = reading_from (before_all message bytes false).place later (bytes ++ more) in
+      ap (λ f. read_as r.marks f) (no_bytes_by r.finish);
+}
+
+-- nothing is read there of a response
+none_idle : (at there : At) (next : Wanted) (side : Option Link) → stage_of at next ≡ idle there → HasNoMore next side
+none_idle at there ready.Idle side is = tt
+none_idle at there (ready.RequestBody flow given body) side is = tt
+none_idle at there (ready.Connection flow) side is = tt
+none_idle at there (ready.ResponseHead flow server) side is = tt
+none_idle at there (ready.ResponseBody flow server most body held) side is = absurd (let no : stage_of at (ready.ResponseBody flow server most body held) ≡ idle there = is in cc)
+none_idle at there (ready.ComingDown flow server sent) side is = absurd (let no : stage_of at (ready.ComingDown flow server sent) ≡ idle there = is in cc)
+none_idle at there (ready.Upgraded flow server) side is = tt
+none_idle at there (ready.GivenHead flow) side is = tt
+none_idle at there (ready.GivenBody flow) side is = tt
+none_idle at there (ready.Connects address) side is = tt
+none_idle at there ready.Over side is = tt
+
+none_over : (at : At) (next : Wanted) (side : Option Link) → stage_of at next ≡ over → HasNoMore next side
+none_over at ready.Idle side is = tt
+none_over at (ready.RequestBody flow given body) side is = tt
+none_over at (ready.Connection flow) side is = tt
+none_over at (ready.ResponseHead flow server) side is = tt
+none_over at (ready.ResponseBody flow server most body held) side is = absurd (let no : stage_of at (ready.ResponseBody flow server most body held) ≡ over = is in cc)
+none_over at (ready.ComingDown flow server sent) side is = absurd (let no : stage_of at (ready.ComingDown flow server sent) ≡ over = is in cc)
+none_over at (ready.Upgraded flow server) side is = tt
+none_over at (ready.GivenHead flow) side is = tt
+none_over at (ready.GivenBody flow) side is = tt
+none_over at (ready.Connects address) side is = tt
+none_over at ready.Over side is = tt
+
+none_behind : (stays : Bool) (there at : At) (next : Wanted) (side : Option Link) → stage_of at next ≡ sequence (behind_flow stays there) → HasNoMore next side
+none_behind true there at next side is = none_idle at (record there { flow = there.flow + 1 }) next side is
+none_behind false there at next side is = none_over at next side is
+
+passed_behind : (stays : Bool) (there : At) (past : Sight) → IsPassed (sequence (behind_flow stays there)) past
+passed_behind true there past = tt
+passed_behind false there past = tt
+
+sent_behind : (stays : Bool) (there : At) → sent_on (sequence (behind_flow stays there)) none_sent ≡ []
+sent_behind true there = refl
+sent_behind false there = refl
+
+-- ---- from what is passed to
+
+-- passing owes this and leads there, and this is left of the sight
+pub record GoesTo (turn : Turn Stage Command) (past : Sight) (at : At) (requests : State) (side : Option Link) (looked : Wanted) (before out longer : List Command) : Type 0 where
+  pub sent : SentOn
+  pub more : List Command
+  pub grown : longer ≡ out ++ more
+  pub owes : (view : View) → seen_of view (before ++ more) ≡ seen_of view (turn.owed ++ sent_on (sequence turn.stage) sent)
+  pub is_ready : IsReady at requests side looked (sequence turn.stage) past sent
+  pub is_passed : IsPassed (sequence turn.stage) past
+  pub no_more : HasNoMore looked side
+
+goes_to_there : (stage : Stage) (seen : Sight) (at : At) (requests : State) (side : Option Link) (looked : Wanted) (before out longer : List Command) →
+    GoesTo (pass stage seen) (sight_past stage seen) at requests side looked before out longer → PassedTo stage seen at requests side looked before out longer
+goes_to_there stage seen at requests side looked before out longer goes = record {
+  sent = goes.sent;
+  more = goes.more;
+  grown = goes.grown;
+  owes = goes.owes;
+  is_ready = goes.is_ready;
+  is_passed = goes.is_passed;
+  no_more = goes.no_more;
+}
+
+-- the text of what came, of a flow whose response is there
+text_of : (flow : Flow) (seen : Sight) (answer : Response) (head : ReadResponse) → flow.response ≡ Some answer → head_in (answers_in flow.request seen).final ≡ Some head →
+    coming_text flow seen ≡ final_so_far (framed_as head answer) (is_head flow.request.method) seen.shut seen.server
+text_of flow seen answer head is there =
+    ap (λ given. coming_by given (head_in (answers_in flow.request seen).final) flow.request seen.shut seen.server) is
+    ∙ ap (λ h. coming_by (Some answer) h flow.request seen.shut seen.server) there
+
+some_same : {A : Type 0} (x y : A) → Some x ≡ Some y → x ≡ y
+some_same x y is = cc
+
+-- a side whose reader gave more
+abbrev link_on : (asked_head : Bool) (server : ℕ) (bytes : List ℕ) (shut : Bool) (interim : List ReadResponse) (told more : List Mark) (link further : Link)
+    (is_link : ReadsLink asked_head server bytes shut interim told link) → further ≡ record link { responses = further.responses } →
+    Reads (response asked_head) (told ++ more) is_link.fed shut further.responses → ReadsLink asked_head server bytes shut interim (told ++ more) further
+link_on asked_head server bytes shut interim told more link further is_link same reads = record {
+  server = ap (λ (l : Link). l.server) same ∙ is_link.server;
+  is_asked = ap (λ (l : Link). l.asked_head) same ∙ is_link.is_asked;
+  closed = ap (λ (l : Link). l.closed) same ∙ is_link.closed;
+  fed = is_link.fed;
+  passes = is_link.passes;
+  reads = reads;
+}
+
+-- what is streamed has a body, as the flow says it
+given_has_body : (flow : Flow) (given : Option Response) (answer read : Response) (most : Option ℕ) (heard : ℕ) → as_streamed given ≡ Some answer → streams_by flow given read most heard ≡ true →
+    has_no_body answer.status (is_head flow.request.method) ≡ false
+given_has_body flow None answer read most heard is streams = absurd (let no : None ≡ Some answer = is in cc)
+given_has_body flow (Some own) answer read most heard is streams =
+    subst (λ (r : Response). has_no_body r.status (is_head flow.request.method) ≡ false) (some_same (record own { streamed = true }) answer is)
+    (streams_has_body (is_head flow.request.method) read own most heard streams)
+
+-- One passage of the machine, whose client's reader keeps what is seen of it.
+module _ (at new : At) (seen : Sight) (old : State) (next : Wanted) (out longer : List Command) (keeps : Keeps seen.client old) where
+  -- with the side that is open behind it, and what was sent before
+  abbrev Goes : Turn Stage Command → Sight → At → Wanted → Link → List Command → Type 0
+  Goes turn past there looked further before =
+      GoesTo turn past there (requests_behind (stage_of there looked) old) (side_behind false (stage_of there looked) (Some further)) looked before out longer
+
+  -- a finished flow leads to a head of a request of which nothing was read, or to the end
+  ready_behind : (stays : Bool) (further : Link) → stage_of new next ≡ sequence (behind_flow stays (unparked at)) →
+      IsReady new (requests_behind (stage_of new next) old) (side_behind false (stage_of new next) (Some further)) next (sequence (behind_flow stays (unparked at)))
+      (record seen { server = []; shut = false }) none_sent
+  ready_behind true further leads = record {
+    is_stage = leads;
+    request = (let first : Reads request [] seen.client false (before_all request old.rest false) =
+        subst (λ l. Reads request [] l false (before_all request old.rest false)) keeps.rest (begins_here request old.rest) in
+        subst (λ s. Reads request [] seen.client false (requests_behind s old)) (sym leads) first);
+    has_side = ap (λ s. side_behind false s (Some further)) leads;
+  }
+  ready_behind false further leads = record { is_stage = leads; request = tt; has_side = tt }
+
+  -- ---- a response that is streamed: its head and all that came of it, of which this was said before
+
+  module _ (flow : Flow) (server : ℕ) (answer : Response) (interim : List ReadResponse) (head : ReadResponse) (all : List Mark) (further : Link) (was text : List ℕ) (given : flow.response ≡ Some answer)
+      (has_body : has_no_body answer.status (is_head flow.request.method) ≡ false) (final : is_interim head ≡ false) (is_link : IsLink flow.request server seen interim (answers head ∷ all) further)
+      (said : was ++ text ≡ response_head_text (framed_by (response_of head) answer) ++ marks_text all) where
+    abbrev sent_as : Response
+    sent_as = framed_by (response_of head) answer
+
+    abbrev reading : Reading
+    reading = response_reading (is_head flow.request.method) seen.shut is_link.fed
+
+    abbrev GoesDown : Option Came → Type 0
+    GoesDown came = Goes (pass_came at flow server all_sent seen came) (past_came came seen) new next further (sends_text was)
+
+    -- it is not whole
+    comes_on : (to_come further.responses).marks ≡ [] → came_in flow seen ≡ None → longer ≡ out ++ sends_text text → new ≡ at → next ≡ ready.ComingDown flow server sent_as → GoesDown None
+    comes_on none came grown here there =
+        let P : At → Wanted → Type 0 = λ a n. Goes (pass_came at flow server all_sent seen None) seen a n further (sends_text was) in
+        let stays : P at (ready.ComingDown flow server sent_as) = record {
+          sent = record { interim = []; text = was ++ text };
+          more = sends_text text;
+          grown = grown;
+          owes = λ view.
+              ap (λ l. seen_of view (sends_text was ++ l)) (sym (append-nil (sends_text text)))
+              ∙ (texts_sent view was text [] ∙ ap (seen_of view) (append-nil (sends_text (was ++ text))));
+          is_ready = record {
+            is_stage = refl;
+            request = keeps;
+            has_side = record {
+              sent = interim;
+              head = head;
+              marks = all;
+              is_text = said;
+              streamed = record { response = answer; is_given = given; is_sent = refl; has_body = has_body };
+              final = final;
+              is_link = is_link;
+            };
+          };
+          is_passed = came;
+          no_more = none;
+        } in
+        subst (λ a. P a next) (sym here) (subst (λ n. P at n) (sym there) stays)
+
+    -- all of it came
+    abbrev came_here : Came
+    came_here = record { response = answer; head = head }
+
+    abbrev goes_further : Bool
+    goes_further = goes_on_behind at.flow flow.request answer sent_as
+
+    abbrev ending : List Command
+    ending = finished_streamed flow seen.now (server_in server seen) ++ shut_unless goes_further NoServer seen.closed
+
+    whole_text : (trailers : List (List ℕ × List ℕ)) (used : ℕ) → reading ≡ read_as (answers head ∷ all) (whole trailers used) →
+        was ++ (text ++ last_text sent_as.fields trailers) ≡ coming_text flow seen
+    whole_text trailers used is =
+        sym (append_assoc was text (last_text sent_as.fields trailers))
+        ∙ (ap (λ l. l ++ last_text sent_as.fields trailers) said
+        ∙ (append_assoc (response_head_text sent_as) (marks_text all) (last_text sent_as.fields trailers)
+        ∙ (sym (text_is (is_head flow.request.method) seen.shut seen.server is_link.fed interim is_link.passes head final all (whole trailers used) is sent_as has_body)
+        ∙ sym (text_of flow seen answer head given (head_is (is_head flow.request.method) seen.shut seen.server is_link.fed interim is_link.passes head final all (whole trailers used) is)))))
+
+    comes_whole : (trailers : List (List ℕ × List ℕ)) (used : ℕ) → reading ≡ read_as (answers head ∷ all) (whole trailers used) →
+        longer ≡ out ++ (sends_text (text ++ last_text sent_as.fields trailers) ++ ending) → stage_of new next ≡ sequence (behind_flow goes_further (unparked at)) → GoesDown (Some came_here)
+    comes_whole trailers used is grown leads =
+        let last : List ℕ = text ++ last_text sent_as.fields trailers in
+        let there : Stage = sequence (behind_flow goes_further (unparked at)) in
+        record {
+          sent = none_sent;
+          more = sends_text last ++ ending;
+          grown = grown;
+          owes = λ view.
+              texts_sent view was last ending
+              ∙ (text_sent view (was ++ last) ending
+              ∙ (ap (λ t. seen_of view (commands.Send Client t ∷ ending)) (whole_text trailers used is)
+              ∙ ap (seen_of view) (sym (ap (λ l. (commands.Send Client (coming_text flow seen) ∷ ending) ++ l) (sent_behind goes_further (unparked at)) ∙ append-nil (commands.Send Client (coming_text flow seen) ∷ ending)))));
+          is_ready = ready_behind goes_further further leads;
+          is_passed = passed_behind goes_further (unparked at) (record seen { server = []; shut = false });
+          no_more = none_behind goes_further (unparked at) new next (side_behind false (stage_of new next) (Some further)) leads;
+        }
+
+    -- its item there, by how the reading ended
+    item_here : (finish : Finish) → reading ≡ read_as (answers head ∷ all) finish → (answers_in flow.request seen).final ≡ item_behind head (body_of all) finish
+    item_here finish is = item_is (is_head flow.request.method) seen.shut seen.server is_link.fed interim is_link.passes head final all finish is
+
+    came_as : (finish : Finish) → reading ≡ read_as (answers head ∷ all) finish → came_in flow seen ≡ came_by (Some answer) (item_behind head (body_of all) finish)
+    came_as finish is = ap (λ o. came_by o (answers_in flow.request seen).final) given ∙ ap (came_by (Some answer)) (item_here finish is)
+
+    goes_down_by : (came : Option Came) → came_in flow seen ≡ came → GoesDown came → GoesDown (came_in flow seen)
+    goes_down_by came is goes = subst GoesDown (sym is) goes
+
+    goes_down : (got : Progress) → HasCome got reading (answers head ∷ all) is_link.fed further.responses →
+        WentDown at new seen.now (server_in server seen) seen.closed flow server sent_as got text next out longer → GoesDown (came_in flow seen)
+    goes_down progress.Missing come went =
+        let came = came_as goes_on come in
+        goes_down_by None came
+        (comes_on (none_left progress.Missing (response (is_head flow.request.method)) (answers head ∷ all) is_link.fed seen.shut further.responses is_link.reads come) came went.gives went.leads.0 went.leads.1)
+    goes_down (progress.Bad fault) come went =
+        let came = came_as (fails fault) come in
+        goes_down_by None came
+        (comes_on (none_left (progress.Bad fault) (response (is_head flow.request.method)) (answers head ∷ all) is_link.fed seen.shut further.responses is_link.reads come) came went.gives went.leads.0 went.leads.1)
+    goes_down (progress.Whole trailers) come went =
+        let last : List ℕ = text ++ last_text sent_as.fields trailers in
+        goes_down_by (Some came_here) (came_as (whole trailers come.0) come.1)
+        (comes_whole trailers come.0 come.1
+        (went.gives ∙ ap (λ o. out ++ (sends_text last ++ ended_gives at.flow flow o sent_as seen.now (server_in server seen) seen.closed)) given)
+        (went.leads ∙ ap (λ o. ended_leads at flow o sent_as) given))
+
+  -- ---- a response that is streamed already
+
+  down_at : (flow : Flow) (server : ℕ) (is_sent : Response) (was : List ℕ) (link further : Link) → ReadsDown flow server seen (Some is_sent) was link → (got : Progress) (text : List ℕ) →
+      SaysMore got [] text link further → WentDown at new seen.now (server_in server seen) seen.closed flow server is_sent got text next out longer →
+      Goes (pass (busy at flow (coming_down server all_sent)) seen) (sight_past (busy at flow (coming_down server all_sent)) seen) new next further (sends_text was)
+  down_at flow server is_sent was link further read got text more went =
+      let asked_head : Bool = is_head flow.request.method in
+      let told : List Mark = answers read.head ∷ read.marks in
+      let over = more.read.held.over in
+      let all : List Mark = read.marks ++ over.marks in
+      let framed : is_sent ≡ framed_by (response_of read.head) read.streamed.response = some_same is_sent (framed_by (response_of read.head) read.streamed.response) read.streamed.is_sent in
+      let head_text : List ℕ = response_head_text is_sent in
+      let said : was ++ text ≡ response_head_text (framed_by (response_of read.head) read.streamed.response) ++ marks_text all =
+      ap (λ l. l ++ text) read.is_text
+      ∙ (ap (λ l. (head_text ++ marks_text read.marks) ++ l) over.says
+      ∙ (append_assoc head_text (marks_text read.marks) (marks_text over.marks)
+      ∙ (ap (λ l. head_text ++ l) (sym (marks_both read.marks over.marks))
+      ∙ ap (λ s. response_head_text s ++ marks_text all) framed))) in
+      goes_down flow server read.streamed.response read.sent read.head all further was text read.streamed.is_given read.streamed.has_body read.final
+      (link_on asked_head server seen.server seen.shut read.sent told over.marks link further read.is_link more.same (over.reads (response asked_head) told read.is_link.fed seen.shut read.is_link.reads))
+      said got (more.read.held.come (response asked_head) told read.is_link.fed seen.shut read.is_link.reads)
+      (subst (λ s. WentDown at new seen.now (server_in server seen) seen.closed flow server s got text next out longer) framed went)
+
+  -- ---- one that may yet be
+
+  module _ (flow : Flow) (server : ℕ) (most : Option ℕ) (body : List ℕ) (held : Held) (link further : Link) (read : ReadsReturn flow server most seen body (Some held) link)
+      (it : HeldPassed at new seen.now (server_in server seen) seen.closed flow server most body held next (Some link) (Some further) out longer) where
+    abbrev asked_head : Bool
+    asked_head = is_head flow.request.method
+
+    abbrev told : List Mark
+    told = answers read.head ∷ read.marks
+
+    abbrev all : List Mark
+    all = read.marks ++ it.read.read.over.marks
+
+    abbrev is_link : IsLink flow.request server seen read.sent (answers read.head ∷ all) further
+    is_link = link_on asked_head server seen.server seen.shut read.sent told it.read.read.over.marks link further read.is_link it.read.same
+        (it.read.read.over.reads (response asked_head) told read.is_link.fed seen.shut read.is_link.reads)
+
+    come_to : HasCome it.got (response_reading asked_head seen.shut read.is_link.fed) (answers read.head ∷ all) read.is_link.fed further.responses
+    come_to = it.read.read.come (response asked_head) told read.is_link.fed seen.shut read.is_link.reads
+
+    content_is : it.body ≡ content_of all
+    content_is =
+        it.read.read.over.grown
+        ∙ (ap (λ l. l ++ content_of it.read.read.over.marks) read.is_content ∙ sym (flat_map-append content_at read.marks it.read.read.over.marks))
+
+    read_is : it.more.read ≡ response_of read.head
+    read_is = it.same ∙ read.holds.1
+
+    said_is : it.more.said.items ≡ marks_text all
+    said_is =
+        it.read.read.over.says
+        ∙ (ap (λ l. l ++ marks_text it.read.read.over.marks) read.holds.2 ∙ sym (marks_both read.marks it.read.read.over.marks))
+
+    streams_as : streams_in flow most seen ≡ streams_by flow flow.response held.read most (length it.body)
+    streams_as =
+        let ended = finish_of it.got (response_reading asked_head seen.shut read.is_link.fed) (answers read.head ∷ all) read.is_link.fed further.responses come_to in
+        judged flow flow.response seen.shut seen.server read.is_link.fed read.sent read.is_link.passes read.head read.final all ended.0 ended.1 most
+        ∙ (ap (λ r. streams_by flow flow.response r most (length (content_of all))) (sym read.holds.1)
+        ∙ ap (λ l. streams_by flow flow.response held.read most (length l)) (sym content_is))
+
+    abbrev GoesBy : Bool → Type 0
+    GoesBy b = Goes (pass_kept b at flow server all_sent most seen) (past_kept b (came_in (streaming flow) seen) seen) new next further []
+
+    -- it is held on
+    holds_on : streams_in flow most seen ≡ false → HeldWent false at new seen.now (server_in server seen) seen.closed flow server most it.body it.more it.got next out longer → GoesBy false
+    holds_on streams went =
+        let P : At → Wanted → Type 0 = λ a n. Goes (pass_kept false at flow server all_sent most seen) seen a n further [] in
+        let stays : P at (ready.ResponseBody flow server most it.body (Some it.more)) = record {
+          sent = none_sent;
+          more = [];
+          grown = went.gives ∙ sym (append-nil out);
+          owes = λ view. refl;
+          is_ready = record {
+            is_stage = refl;
+            request = keeps;
+            has_side = record {
+              sent = read.sent;
+              head = read.head;
+              marks = all;
+              is_content = content_is;
+              holds = (read.holds.0, read_is, said_is);
+              final = read.final;
+              is_link = is_link;
+            };
+          };
+          is_passed = streams;
+          no_more = none_left it.got (response asked_head) (answers read.head ∷ all) read.is_link.fed seen.shut further.responses is_link.reads come_to;
+        } in
+        subst (λ a. P a next) (sym went.same) (subst (λ n. P at n) (sym went.is_there) stays)
+
+    -- it is streamed from here on
+    starts_down : streams_by flow flow.response held.read most (length it.body) ≡ true →
+        HeldWent true at new seen.now (server_in server seen) seen.closed flow server most it.body it.more it.got next out longer → GoesBy true
+    starts_down streams went =
+        let head_text : List ℕ = response_head_text (framed_by (response_of read.head) went.response) in
+        let P : Response → List ℕ → Type 0 = λ r l.
+        WentDown at new seen.now (server_in server seen) seen.closed (streaming flow) server (framed_by r went.response) it.got (response_head_text (framed_by r went.response) ++ l) next out longer in
+        goes_down (streaming flow) server went.response read.sent read.head all further [] (head_text ++ marks_text all) went.is_given
+        (given_has_body flow flow.response went.response held.read most (length it.body) went.is_given streams) read.final is_link refl it.got come_to
+        (subst (λ l. P (response_of read.head) l) said_is (subst (λ r. P r it.more.said.items) read_is went.went))
+
+    held_by : (b : Bool) → streams_by flow flow.response held.read most (length it.body) ≡ b → HeldWent b at new seen.now (server_in server seen) seen.closed flow server most it.body it.more it.got next out longer →
+        GoesBy b
+    held_by true is went = starts_down is went
+    held_by false is went = holds_on (streams_as ∙ is) went
+
+    held_at : GoesBy (streams_in flow most seen)
+    held_at = subst GoesBy (sym streams_as) (held_by (streams_by flow flow.response held.read most (length it.body)) refl it.went)
+
+-- ---- all that is looked for
+
+passed_in : (at new : At) (looked next : Wanted) (side middle : Option Link) (out longer : List Command) (used there : Used) (moment now : ℕ) (closed shut : Bool) → used ≡ there → moment ≡ now → closed ≡ shut →
+    Passed at new moment used closed looked next side middle out longer → Passed at new now there shut looked next side middle out longer
+passed_in at new looked next side middle out longer used there moment now closed shut one two three is =
+    subst (λ u. Passed at new now u shut looked next side middle out longer) one
+    (subst (λ m. Passed at new m used shut looked next side middle out longer) two
+    (subst (λ c. Passed at new moment used c looked next side middle out longer) three is))
+
+module _ (at new : At) (seen : Sight) (old : State) (moment : ℕ) (closed : Bool) (out longer : List Command) (sent : SentOn) (now : moment ≡ seen.now) (next : Wanted) where
+  -- the server of an open side is that of the stage
+  open_used : (server : ℕ) (link : Link) → link.server ≡ server → link.closed ≡ seen.shut → used_in (Some link) ≡ server_in server seen
+  open_used server link one two = rw (one, two) refl
+
+  abbrev PassedOn : Option Link → Stage → Type 0
+  PassedOn middle stage =
+      PassedTo stage seen new (requests_behind (stage_of new next) old) (side_behind false (stage_of new next) middle) next (sent_on stage sent) out longer
+
+  body_passed : (flow : Flow) (server : ℕ) (most : Option ℕ) (body : List ℕ) (held : Held) (side middle : Option Link) → Keeps seen.client old → closed ≡ seen.closed →
+      IsOpen (ReadsReturn flow server most seen body (Some held)) side → HeldPassed at new moment (used_in side) closed flow server most body held next side middle out longer →
+      PassedOn middle (busy at flow (response_body server all_sent most))
+  body_passed flow server most body held None middle keeps shut is_open it = absurd is_open
+  body_passed flow server most body held (Some link) None keeps shut is_open it = absurd it.read
+  body_passed flow server most body held (Some link) (Some further) keeps shut is_open it =
+      goes_to_there (busy at flow (response_body server all_sent most)) seen new (requests_behind (stage_of new next) old) (side_behind false (stage_of new next) (Some further)) next [] out longer
+      (held_at at new seen old next out longer keeps flow server most body held link further is_open
+      (passed_in at new (ready.ResponseBody flow server most body (Some held)) next (Some link) (Some further) out longer (used_in (Some link)) (server_in server seen) moment seen.now closed seen.closed
+      (open_used server link is_open.is_link.server is_open.is_link.closed) now shut it))
+
+  down_passed : (flow : Flow) (server : ℕ) (is_sent : Response) (side middle : Option Link) → Keeps seen.client old → closed ≡ seen.closed →
+      IsOpen (ReadsDown flow server seen (Some is_sent) sent.text) side → DownPassed at new moment (used_in side) closed flow server is_sent next side middle out longer →
+      PassedOn middle (busy at flow (coming_down server all_sent))
+  down_passed flow server is_sent None middle keeps shut is_open it = absurd is_open
+  down_passed flow server is_sent (Some link) None keeps shut is_open it = absurd it.read
+  down_passed flow server is_sent (Some link) (Some further) keeps shut is_open it =
+      let here = passed_in at new (ready.ComingDown flow server is_sent) next (Some link) (Some further) out longer (used_in (Some link)) (server_in server seen) moment seen.now closed seen.closed
+      (open_used server link is_open.is_link.server is_open.is_link.closed) now shut it in
+      goes_to_there (busy at flow (coming_down server all_sent)) seen new (requests_behind (stage_of new next) old) (side_behind false (stage_of new next) (Some further)) next (sends_text sent.text) out longer
+      (down_at at new seen old next out longer keeps flow server is_sent sent.text link further is_open here.got here.text here.read here.went)
+
+  passes_by : (looked : Wanted) (side middle : Option Link) → HasRequest (stage_of at looked) seen (content_in looked) old → HasSide (stage_of at looked) seen sent looked side → HasPlace (stage_of at looked) seen at closed →
+      is_passing looked ≡ true → Passed at new moment (used_in side) closed looked next side middle out longer → PassedOn middle (stage_of at looked)
+  passes_by (ready.ResponseBody flow server most body (Some held)) side middle keeps is_open place passing it = body_passed flow server most body held side middle keeps place.client is_open it
+  passes_by (ready.ComingDown flow server is_sent) side middle keeps is_open place passing it = down_passed flow server is_sent side middle keeps place.client is_open it
+  passes_by (ready.ResponseBody flow server most body None) side middle keeps is_open place passing it = absurd (let no : false ≡ true = passing in cc)
+  passes_by ready.Idle side middle reads parked place passing it = absurd (let no : false ≡ true = passing in cc)
+  passes_by (ready.RequestBody flow given body) side middle reads parked place passing it = absurd (let no : false ≡ true = passing in cc)
+  passes_by (ready.Connection flow) side middle keeps parked place passing it = absurd (let no : false ≡ true = passing in cc)
+  passes_by (ready.ResponseHead flow server) side middle keeps is_open place passing it = absurd (let no : false ≡ true = passing in cc)
+  passes_by (ready.Upgraded flow server) side middle keeps is_open place passing it = absurd (let no : false ≡ true = passing in cc)
+  passes_by (ready.GivenHead flow) side middle keeps parked place passing it = absurd (let no : false ≡ true = passing in cc)
+  passes_by (ready.GivenBody flow) side middle keeps parked place passing it = absurd (let no : false ≡ true = passing in cc)
+  passes_by (ready.Connects address) side middle none is_open place passing it = absurd (let no : false ≡ true = passing in cc)
+  passes_by ready.Over side middle keeps is_open place passing it = absurd (let no : false ≡ true = passing in cc)
+
+-- What is given is what passing owes, with what is sent of where it leads, and the flow is there.
+pub passes_follow : (at new : At) (seen : Sight) (old later : State) (side middle : Option Link) (moment : ℕ) (closed : Bool) (out longer : List Command) (sent : SentOn) →
+    moment ≡ seen.now → (stage : Stage) (looked next : Wanted) → IsReady at old side looked stage seen sent → HasPlace stage seen at closed → is_passing looked ≡ true →
+    Passed at new moment (used_in side) closed looked next side middle out longer → later ≡ requests_behind (stage_of new next) old →
+    PassedTo stage seen new later (side_behind false (stage_of new next) middle) next (sent_on stage sent) out longer
+passes_follow at new seen old later side middle moment closed out longer sent now stage looked next is place passing it follows =
+    let same : stage_of at looked ≡ stage = is.is_stage in
+    let passed : PassedOn at new seen old moment closed out longer sent now next middle (stage_of at looked) =
+    passes_by at new seen old moment closed out longer sent now next looked side middle
+    (subst (λ s. HasRequest s seen (content_in looked) old) (sym same) is.request) (subst (λ s. HasSide s seen sent looked side) (sym same) is.has_side)
+    (subst (λ s. HasPlace s seen at closed) (sym same) place) passing it in
+    subst (λ s. PassedTo s seen new later (side_behind false (stage_of new next) middle) next (sent_on s sent) out longer) same
+    (subst (λ r. PassedTo (stage_of at looked) seen new r (side_behind false (stage_of new next) middle) next (sent_on (stage_of at looked) sent) out longer) (sym follows) passed)
