@@ -15,7 +15,7 @@ from page_cases import BROWSERS, HEADLESS, shown_by
 from tools import MITM, PROXY, TOP, Skipped, Started, connected, lines_of, listens, same, wait_for
 
 # Commands that change nothing, and so are asked again until they show their lines: what they ask about may take a moment.
-ASKING = ("echo list |", "echo show ", "./mitm flows ")
+ASKING = ("echo list |", "echo show ", "seq -f 'entry ", "./mitm flows ")
 # What the tasks of docs/howto.md make beside what all examples make.
 MADE = ("try.toml", "other.toml", "one.flows", "again.sh", "saved.har")
 

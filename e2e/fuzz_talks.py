@@ -293,6 +293,7 @@ def operator_text(rng, ids):
         one = b"%d.%d" % (rng.choice(ids), rng.choice((0, 0, 1, 2)))
         said.append(rng.choice((
             b"list", b"list", b"show " + one, b"resume " + one, b"kill " + one, b"mark " + one, b"drop counter", b"drop ", b"drop x", b"", b" ", b"list ", b" list", b"LIST", b"show", b"show 1",
+            b"entry " + one + b" 0", b"entry " + one + b" 300", b"entry " + one + b" 99999999", b"entry " + one, b"entry " + one + b" x", b"entry 1 0",
             b"resume 00.0", b"kill +1.2", b"mark 4294967296.0", b"show 4294967295.4294967295", b"show " + one + b"\r", b"list\r", b"list\r\r", b"quit now", b"quit ", b"qui", b"\xff\xfe", b"\0list",
             b"show 2147483648.0", b"resume  " + one, b"x" * 1022, b"x" * 1023, b"x" * 1024, b"x" * 5000, b"GET / HTTP/1.1", rng.randbytes(9),
         )))

@@ -1,17 +1,19 @@
 """Cases of the operator's door: flows that wait are listed, shown, let go on and killed; lines in any pieces; operators who leave, flood or
 never read; and pages and WebSockets that are held."""
+import base64
 import json
 import os
 import random
 import shutil
 import socket
 import subprocess
+import sys
 import tempfile
 import threading
 import time
 
 from page_cases import BROWSERS, page_mitm, shown_by
-from tools import MITM, MODE, ORIGIN, PROXY, Mitm, Skipped, curl, get, line, listens, read_all, read_answers, run_program, same, talk, url, wait_for
+from tools import MITM, MODE, ORIGIN, PROXY, TOP, Mitm, Skipped, curl, get, line, listens, read_all, read_answers, run_program, same, talk, url, wait_for
 from tunnel_cases import Peer, close, read_head, reset
 from websocket_cases import PEER, REVERSE, TEXT, agreeing, frame, read_frame, upgraded, with_library
 
@@ -25,6 +27,8 @@ FLOOD = 2_000_000
 MOST_GROWN = 32_000_000
 # What waits for an operator's connection at most before it is not read any more, by docs/rules.md.
 MARK = 262_144
+# How much of an entry stands in one line at most.
+PART = 65_536
 
 
 class Operated(Mitm):
@@ -100,6 +104,20 @@ class Operator:
 
     def about(self, name):
         return json.loads(self.ask(f"show {name}"))
+
+    def part(self, name, start):
+        """The part of a flow's entry from there on."""
+        self.say(f"entry {name} {start}\n")
+        got = self.stream.readline()
+        assert got.endswith(b"\n"), got[:100]
+        return got[:-1]
+
+    def entry(self, name):
+        """A flow's entry, put together from its parts."""
+        whole = b""
+        while (part := self.part(name, len(whole))):
+            whole += part
+        return whole
 
 
 class Letting(threading.Thread):
@@ -283,6 +301,39 @@ def case_flow_that_does_not_wait():
         same(mitm.new_lines(1), [line("POST", "/echo", 200, 4)])
 
 
+def case_entry_in_parts():
+    """A flow's entry with a large body: each part is a line, and no longer than it may be; at its end and behind it the line is empty."""
+    body = random.Random(7).randbytes(200_000)
+    request = get("/held", f"Content-Length: {len(body)}", "Connection: close").replace(b"GET", b"POST", 1)
+    with Operated(RESPONSES) as mitm, Operator() as operator, sender(request + body) as client:
+        name, = operator.held()
+        text = operator.entry(name)
+        entry = json.loads(text)
+        same((entry["request"]["method"], entry["request"]["postData"]["text"].encode("latin-1") == body, entry["response"]["status"]), ("POST", True, 200))
+        assert len(text) > 4 * PART, len(text)
+        for start in (0, 1, PART - 1, PART, 3 * PART + 7, len(text) - PART, len(text) - PART + 1, len(text) - 1, len(text), len(text) + 1, 2**32, 2**64 - 1):
+            assert operator.part(name, start) == text[start:start + PART], start
+        same(operator.ask(f"resume {name}"), "ok")
+        operator.rests()
+        same(operator.ask(f"entry {name} 0"), "no such flow")
+        read_all(client)
+        mitm.new_lines(1)
+
+
+def case_entry_as_people_read_it():
+    """examples/show.py reads the parts, and what stands behind their end."""
+    with Operated(REQUESTS) as mitm, Operator() as operator, sender(get("/held", "Connection: close")) as client:
+        name, = operator.held()
+        operator.say("".join(f"entry {name} {start}\n" for start in (0, PART, 2 * PART)))
+        said = b"".join(operator.stream.readline() for _ in range(3))
+        ran = subprocess.run([sys.executable, "-B", os.path.join(TOP, "examples", "show.py")], input=said, stdout=subprocess.PIPE, timeout=60)
+        lines = ran.stdout.decode().splitlines()
+        same((ran.returncode, lines[1], lines[-1]), (0, f"> GET http://127.0.0.1:{ORIGIN}/held HTTP/1.1", "(there is no response)"))
+        same(operator.ask(f"resume {name}"), "ok")
+        read_all(client)
+        mitm.new_lines(1)
+
+
 def case_marks():
     """A mark shows where the flow is asked about next, and filters see it: here of what is saved."""
     options = 'save_stream_file = "saved"\nsave_stream_filter = "~marked"\n'
@@ -322,6 +373,9 @@ def case_lines_that_are_no_orders():
         ("kill  0.0", unknown), ("quit now", unknown), ("drop", unknown), ("GET / HTTP/1.1", unknown), ("é", unknown),
         ("show 0", number), ("show 00.0", number), ("kill 0.00", number), ("mark +1.2", number), ("resume 0.4294967296", number), ("resume -1.0", number),
         ("mark .", number), ("show ", number), ("show 0.0.0", number),
+        ("entry", unknown), ("entry 0.0", unknown), ("entry 0.0 0 0", unknown), ("entry  0.0 0", unknown), ("show 0.0 0", unknown),
+        ("entry 0 0", number), ("entry 00.0 0", number), ("entry 0.0 x", number), ("entry 0.0 ", number), ("entry 0.0 00", number), ("entry 0.0 -1", number),
+        (f"entry 0.0 {2**64}", number), ("entry x x", number), ("entry 0.0 0", "no such flow"), (f"entry 7.7 {2**64 - 1}", "no such flow"),
         ("show 0.0", "no such flow"), ("resume 4294967295.4294967295", "no such flow"), ("kill 7.7", "no such flow"), ("mark 7.7", "no such flow"),
         ("drop nobody", "no such addon"), ("drop ", "no such addon"),
     ]
@@ -601,8 +655,11 @@ def case_held_message_of_a_websocket():
             client.sendall(frame(TEXT, b"hold this", True) + frame(TEXT, b"free", True))
             name, = operator.held()
             same(operator.about(name)["code"], 101)
+            text, payload = operator.entry(name).rsplit(b" ", 1)
+            same((json.loads(text)["response"]["status"], base64.b64decode(payload)), (101, b"hold this"))
             same(operator.ask(f"resume {name}"), "ok")
             same(operator.held(), [name])
+            same(base64.b64decode(operator.entry(name).rsplit(b" ", 1)[1]), b"hold that")
             gets_nothing(client)
             same(operator.ask(f"resume {name}"), "ok")
             same(read_frame(client), (0x80 | TEXT, b"hold that"))
@@ -665,7 +722,7 @@ def case_browser_is_held_and_let_go():
 
 OPERATOR_CASES = [
     case_no_door_without_the_option, case_door_that_cannot_be_had, case_held_request, case_held_response, case_both_are_held, case_killed_flows_give_no_byte, case_resumed_in_the_other_order,
-    case_many_held_and_let_go_in_any_order, case_pipelined_behind_a_held_one, case_flow_that_does_not_wait, case_marks, case_rules_come_first,
+    case_many_held_and_let_go_in_any_order, case_pipelined_behind_a_held_one, case_flow_that_does_not_wait, case_entry_in_parts, case_entry_as_people_read_it, case_marks, case_rules_come_first,
     case_lines_that_are_no_orders, case_dropped_addon, case_longest_line, case_lines_in_any_pieces, case_operator_closes_its_side, case_operators_leave,
     case_client_leaves_while_its_flow_is_held, case_operator_ends_the_run, case_operator_who_never_reads, case_operator_who_never_reads_and_leaves,
     case_a_thousand_operators, case_line_without_end, case_page_that_posts_to_the_door, case_held_message_of_a_websocket,

@@ -194,6 +194,7 @@ def case_options_without_a_good_mode():
 
 
 def case_unknown_and_wrong_options():
+    refused(MODE + "stream_large_bodys = 1\n", 2, "bad option stream_large_bodys")
     refused(MODE + "stream_large_bodies = 'x'\n", 2, "bad option stream_large_bodies")
     refused(MODE + "anticache = 1\n", 2, "bad option anticache")
 

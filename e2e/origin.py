@@ -3,6 +3,7 @@ import base64
 import socket
 import sys
 import threading
+import time
 
 BIG = 10 * 1024 * 1024
 SOME = 600_000
@@ -108,6 +109,12 @@ def reply(connection, method, target, head, body):
     elif path == "/chunked":
         connection.sendall(b"HTTP/1.1 200 OK\r\nTransfer-Encoding: chunked\r\nTrailer: X-Sum\r\n\r\n")
         connection.sendall(b"5\r\nhello\r\n6;x=y\r\n world\r\n0\r\nX-Sum: 11\r\n\r\n")
+    elif path == "/events":
+        connection.sendall(b"HTTP/1.1 200 OK\r\nContent-Type: text/event-stream\r\nTransfer-Encoding: chunked\r\n\r\n")
+        for number in (1, 2, 3):
+            connection.sendall(b"9\r\ndata: %d\n\n\r\n" % number)
+            time.sleep(0.25)
+        connection.sendall(b"0\r\n\r\n")
     elif path == "/close":
         connection.sendall(b"HTTP/1.1 200 OK\r\nConnection: close\r\n\r\nuntil the close")
         return False
@@ -117,6 +124,9 @@ def reply(connection, method, target, head, body):
     elif path == "/small":
         for byte in answer("200 OK", b"one byte after the other"):
             connection.sendall(bytes([byte]))
+    elif path == "/half":
+        connection.sendall(b"HTTP/1.1 200 OK\r\nContent-Length: 100\r\n\r\nhalf")
+        return False
     elif path == "/reset":
         connection.sendall(b"HTTP/1.1 200 OK\r\nContent-Length: 100\r\n\r\nhalf")
         connection.setsockopt(socket.SOL_SOCKET, socket.SO_LINGER, b"\1\0\0\0\0\0\0\0")

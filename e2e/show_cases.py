@@ -58,6 +58,18 @@ def case_show_an_export():
     same(show.shown(entry(bodySize=-1))[-1], "(the body is not there)")
 
 
+def case_show_parts_of_an_entry():
+    """Lines of an operator's `entry`, put together wherever they are cut, with a message of a WebSocket behind them."""
+    text = json.dumps(entry("grün\n".encode()), ensure_ascii=False).encode()
+    for size in (1, 7, 1000):
+        lines = b"".join(text[start:start + size] + b"\n" for start in range(0, len(text) + 3 * size, size))
+        same(run_show(data=lines)[1].decode().splitlines()[-1], "grün")
+    for payload, wanted in ((b"", ["* a message of 0 bytes"]), (b"hello", ["* a message of 5 bytes", "", "hello"]), (b"\0\1", ["* a message of 2 bytes", "", "00000000  00 01" + " " * 42 + "  |..|"])):
+        same(run_show(data=text + b" " + base64.b64encode(payload) + b"\n")[1].decode().splitlines()[-len(wanted):], wanted)
+    same(run_show(data=text + b" !\n")[0], 1)
+    same(run_show(data=b"no such flow\nno such flow\n"), (1, b"", "show.py: this is no export: no such flow\n"))
+
+
 def case_show_what_is_no_export():
     same(run_show(data=b"bad filter at 0\n"), (1, b"", "show.py: this is no export: bad filter at 0\n"))
     same(run_show(data=b""), (1, b"", "show.py: this is no export: nothing\n"))
@@ -188,5 +200,5 @@ def case_plain_in_front_of_tls():
 
 SHOW_CASES = [
     case_show_an_export, case_show_what_is_no_export, case_show_bodies_with_codings, case_show_bodies_as_texts, case_show_what_curl_sends_again,
-    case_show_a_request_whose_body_passed_by, case_plain_in_front_of_tls,
+    case_show_parts_of_an_entry, case_show_a_request_whose_body_passed_by, case_plain_in_front_of_tls,
 ]

@@ -31,7 +31,7 @@ def case_other_words():
 def case_options_that_are_refused():
     """Behind what is marked standard error says the cause in words."""
     causes = (
-        ("stream_large_bodies = 'x'", "no option has this name"), ("anticache = 1", "true or false"), ("listen = '127.0.0.1'", "HOST:PORT is wanted"),
+        ("stream_large_bodys = 1", "no option has this name"), ("stream_large_bodies = 'x'", "a whole number from 0"), ("anticache = 1", "true or false"), ("listen = '127.0.0.1'", "HOST:PORT is wanted"),
         ("control = 8081", "HOST:PORT is wanted"), ("modify_body = '/a/b'", "a list of texts is wanted"), ("server_replay = 'a.flows'", "a list of paths is wanted"),
         ("server_replay_use_headers = 'A'", "a list of texts is wanted"), ("events = 0", "a whole number from 1"), ("intercept = 1", "a filter"),
         ("save_stream_file = ''", "a path is wanted"), ("server_replay_extra = '405'", '"404"'), ("mode = 1", "a text is wanted"),

@@ -4,8 +4,9 @@ response's, and the bodies: gzip and deflate are decoded, JSON is laid out, and 
 
 With --curl it prints each request as a command of a POSIX shell that sends it again by curl.
 
-The export is what `mitm har FILE FILTER` prints (docs/har.md); this program is on Python's standard library alone. **It shows passwords,
-cookies and tokens**, as the export has them.
+The export is what `mitm har FILE FILTER` prints (docs/har.md), or what an operator's lines `entry ID FROM` are answered, part behind part
+(docs/operator.md); there a message of a WebSocket may stand behind the entry, `*`. This program is on Python's standard library alone.
+**It shows passwords, cookies and tokens**, as the export has them.
 
     show.py [--curl] [FILE]     without FILE it reads standard input
 """
@@ -29,16 +30,23 @@ class Refused(Exception):
     """The input is no export."""
 
 
-def entries_of(text: str) -> list[dict]:
-    """The entries of an export, or the one that the text is."""
+def entries_of(data: bytes) -> list[dict]:
+    """The entries of an export; or the one whose parts the lines are, with the message that stands behind it."""
+    # (JSON needs no line feed, and a part may end in the middle of a character)
+    text = data.replace(b"\n", b"").decode("utf-8", "replace")
     try:
-        tree = json.loads(text)
+        tree, end = json.JSONDecoder().raw_decode(text, len(text) - len(text.lstrip()))
         entries = tree["log"]["entries"] if "log" in tree else [tree]
         for entry in entries:
             entry["request"]["headers"], entry["response"]["headers"]
+        if text[end:].startswith(" ") and "log" not in tree:
+            tree["message"] = base64.b64decode(text[end + 1:], validate=True)
+        elif text[end:].strip():
+            raise ValueError
         return entries
     except (ValueError, LookupError, TypeError, RecursionError):
-        raise Refused(f"this is no export: {text.splitlines()[0][:100] if text.strip() else 'nothing'}") from None
+        lines = data.decode("utf-8", "replace").splitlines()
+        raise Refused(f"this is no export: {lines[0][:100] if text.strip() else 'nothing'}") from None
 
 
 # ---- bytes of an entry
@@ -181,13 +189,24 @@ def shown_body(body: bytes, message: dict) -> list[str]:
     if not body:
         return []
     body, remarks = plain(body, message)
-    text = text_of(body, field_of(message, "content-type"))
+    return ["", *lines_of(body, field_of(message, "content-type")), *(f"({remark})" for remark in remarks)]
+
+
+def lines_of(body: bytes, media: str) -> list[str]:
+    """The lines of a text, or of the front of what is none."""
+    text = text_of(body, media)
     if text is None:
-        lines = front_of(body)
-    else:
-        lines = printable(laid_out(text) if is_json(text) else text).split("\n")
-        lines = lines[:-1] if lines[-1] == "" else lines
-    return ["", *lines, *(f"({remark})" for remark in remarks)]
+        return front_of(body)
+    lines = printable(laid_out(text) if is_json(text) else text).split("\n")
+    return lines[:-1] if lines[-1] == "" else lines
+
+
+def shown_message(entry: dict) -> list[str]:
+    """The lines of a message of a WebSocket behind an entry."""
+    if "message" not in entry:
+        return []
+    payload = entry["message"]
+    return ["", f"* a message of {len(payload)} bytes", *([""] if payload else []), *lines_of(payload, "")]
 
 
 def shown(entry: dict) -> list[str]:
@@ -199,10 +218,10 @@ def shown(entry: dict) -> list[str]:
     lines += shown_body(body_of_request(request), request)
     lines.append("")
     if response["status"] == 0:
-        return [*lines, "(there is no response)"]
+        return [*lines, "(there is no response)", *shown_message(entry)]
     lines.append(f"< {readable(response['httpVersion'])} {response['status']} {readable(response['statusText'])}".rstrip())
     lines += [f"< {readable(name)}: {readable(value)}" for name, value in fields_of(response)]
-    return lines + shown_body(body_of_response(response), response)
+    return lines + shown_body(body_of_response(response), response) + shown_message(entry)
 
 
 # ---- what curl sends
@@ -266,7 +285,7 @@ def main(words: list[str]) -> int:
                 data = file.read()
         else:
             data = sys.stdin.buffer.read()
-        entries = entries_of(data.decode("utf-8", "replace"))
+        entries = entries_of(data)
     except (OSError, Refused) as why:
         print(f"show.py: {why}", file=sys.stderr)
         return 1

@@ -28,6 +28,7 @@ fn value_of(name: &str) -> &'static str {
         "listen" | "control" => HOST_PORT,
         "mode" => "a text is wanted, as \"regular\" or \"reverse:http://HOST:PORT\"",
         "events" => "a whole number from 1 is wanted",
+        "stream_large_bodies" => "a whole number from 0 is wanted",
         "save_stream_file" => "a path is wanted, a text that is not empty",
         "intercept" | "save_stream_filter" | "stickyauth" | "stickycookie" => FILTER,
         "client_replay" | "server_replay" => PATHS,

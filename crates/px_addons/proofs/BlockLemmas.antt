@@ -16,11 +16,11 @@ use Rattle.px_write.specs.Short.{short_response}
 use Rattle.px_addons.specs.Blocked.{blocked, blocked_with}
 use Rattle.px_addons.specs.Moving.{Moves}
 use Rattle.px_core.specs.Drafts.{reply_of}
-use Rattle.px_addons.specs.Chain.{Movers, PartInTurn, by_part, past_part, PartsMove, no_part, next_part, PartsFail, fails_here, fails_later, ChainAnswers, ChainFails, part_failed, judging_failed, answer_by, begun, is_going}
+use Rattle.px_addons.specs.Chain.{Movers, PartInTurn, by_part, past_part, PartsMove, no_part, next_part, PartsFail, fails_here, fails_later, ChainAnswers, ChainFails, part_failed, judging_failed, allowed, answer_by, begun, is_going}
 use Rattle.px_addons.specs.declared.parts.Part.{Part}
 use Rattle.px_addons.specs.declared.parts.Part.TheVariants as part
 use Rattle.px_addons.specs.declared.rules.Rules.{Rules}
-use Rattle.px_addons.proofs.WaitLemmas.{ended_replies}
+use Rattle.px_addons.proofs.WaitLemmas.{ended_allowed}
 
 -- the reply of a status
 abbrev pub block_reply : ℕ → Reply
@@ -96,10 +96,11 @@ module _ {B : Type 0} (title state : B → List ℕ) (moves : B → Moves) where
       ChainAnswers title state moves hooks.RequestHead flow rules old files new_rules new new_files answer →
       (answer ≡ answers.Reply (block_reply status)) × (new ≡ old) × (new_files ≡ files)
   block_answers flow status rules new_rules old new files new_files answer holds given =
-      let all = blocked_parts rules hooks.RequestHead status _ (begun flow rules.stream) given.end old new files new_files refl holds given.moved in (
+      let all = blocked_parts rules hooks.RequestHead status _ (begun flow rules.stream) given.left old new files new_files refl holds given.moved in (
         given.answered
-            ∙ ap (λ d. answer_by rules hooks.RequestHead d) all.0
-            ∙ ended_replies rules hooks.RequestHead (blocked (Some status) (begun flow rules.stream)) (blocks status)
+            ∙ ap (λ d. answer_by rules hooks.RequestHead d) given.limited
+            ∙ ap (λ d. answer_by rules hooks.RequestHead (allowed rules old.replay d)) all.0
+            ∙ ended_allowed rules hooks.RequestHead old.replay (blocked (Some status) (begun flow rules.stream)) (blocks status)
             ∙ ap (λ r. answers.Reply r) (replied status flow rules.stream),
         all.1,
         all.2,

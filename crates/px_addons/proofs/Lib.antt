@@ -8,4 +8,5 @@ pub mod StillLemmas
 pub mod ReplayLemmas
 pub mod RefreshLemmas
 pub mod StickyLemmas
+pub mod SizeLemmas
 pub mod RunLemmas

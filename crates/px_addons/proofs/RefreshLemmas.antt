@@ -1,5 +1,5 @@
 -- Without a recorded list it makes no difference whether dates are to be moved.
-use Rattle.std.proofs.Common.{◌≡◌, ◌∙◌, ℕ, Bool, List, [], ◌∷◌, Option, None, Some, ap}
+use Rattle.std.proofs.Common.{◌≡◌, ◌∙◌, ℕ, Bool, List, Option, None, Some, ap}
 use Rattle.px_message.specs.declared.flow.Flow.{Flow}
 use Rattle.px_event.specs.declared.ask.Hook.{Hook}
 use Rattle.px_core.specs.Answers.{FilesMeaning}
@@ -68,8 +68,10 @@ module _ {B : Type 0} (title state : B → List ℕ) (moves : B → Moves) where
       ChainAnswers title state moves hook flow rules old files new_rules new new_files answer →
       ChainAnswers title state moves hook flow (with_refresh refresh rules) old files (with_refresh refresh new_rules) new new_files answer
   answers_same refresh hook flow rules new_rules old new files new_files answer none given = record {
+    left = given.left;
+    moved = parts_same refresh rules hook (parts hook) (begun flow rules.stream) given.left old new files new_files none given.moved;
     end = given.end;
-    moved = parts_same refresh rules hook (parts hook) (begun flow rules.stream) given.end old new files new_files none given.moved;
+    limited = given.limited;
     answered = given.answered;
     rules = ap (with_refresh refresh) given.rules;
   }

@@ -27,7 +27,7 @@ use Rattle.px_replay.specs.declared.replay.Replay.{Replay}
 use Rattle.px_replay.specs.declared.replay.Replay.TheVariants as replays
 use Rattle.px_addons.specs.Moving.{Moves}
 use Rattle.px_core.specs.Drafts.{reply_of}
-use Rattle.px_addons.specs.Chain.{Movers, PartsMove, ChainAnswers, answer_by, begun, is_going}
+use Rattle.px_addons.specs.Chain.{Movers, PartsMove, ChainAnswers, allowed, answer_by, begun, is_going}
 use Rattle.px_addons.specs.Parts.{parts}
 use Rattle.px_addons.specs.Replays.{AsksRecorded, Replays, moment_at, replayed_by, sent_as, unmatched}
 use Rattle.px_addons.specs.ReplayRuns.{AreOfPlaces, AreOfRecorded, IsExtra, IsOfPlace, of_whole_requests, whole_requests}
@@ -37,7 +37,7 @@ use Rattle.px_addons.specs.declared.parts.Part.TheVariants as part
 use Rattle.px_addons.specs.declared.rules.Rules.{Rules}
 use Rattle.px_addons.proofs.BlockLemmas.{all_passed}
 use Rattle.px_addons.proofs.StillLemmas.{IsNone, first_of, parts_still, replay_moved}
-use Rattle.px_addons.proofs.WaitLemmas.{ended_replies}
+use Rattle.px_addons.proofs.WaitLemmas.{ended_allowed}
 
 -- ---- one request more
 
@@ -212,17 +212,17 @@ module _ {B : Type 0} (title state : B → List ℕ) (moves : B → Moves) where
   pub stays_elsewhere : (hook : Hook) (flow : Flow) (rules new_rules : Rules) (old new : Movers B) (files new_files : FilesMeaning) (answer : Answer) →
       hook ≢ hooks.RequestBody → ChainAnswers title state moves hook flow rules old files new_rules new new_files answer → new.replay ≡ old.replay
   stays_elsewhere hooks.RequestHead flow rules new_rules old new files new_files answer other given =
-      parts_still title state moves part.ServerReplay (λ m. m.replay) replay_moved rules hooks.RequestHead (parts hooks.RequestHead) (begun flow rules.stream) given.end old new files new_files
+      parts_still title state moves part.ServerReplay (λ m. m.replay) replay_moved rules hooks.RequestHead (parts hooks.RequestHead) (begun flow rules.stream) given.left old new files new_files
       ((λ e. cc), ((λ e. cc), ((λ e. cc), ((λ e. cc), ((λ e. cc), ((λ e. cc), ((λ e. cc), ((λ e. cc), ((λ e. cc), tt))))))))) given.moved
   stays_elsewhere hooks.RequestBody flow rules new_rules old new files new_files answer other given = absurd (other refl)
   stays_elsewhere hooks.ResponseHead flow rules new_rules old new files new_files answer other given =
-      parts_still title state moves part.ServerReplay (λ m. m.replay) replay_moved rules hooks.ResponseHead (parts hooks.ResponseHead) (begun flow rules.stream) given.end old new files new_files
+      parts_still title state moves part.ServerReplay (λ m. m.replay) replay_moved rules hooks.ResponseHead (parts hooks.ResponseHead) (begun flow rules.stream) given.left old new files new_files
       ((λ e. cc), ((λ e. cc), ((λ e. cc), tt))) given.moved
   stays_elsewhere hooks.ResponseBody flow rules new_rules old new files new_files answer other given =
-      parts_still title state moves part.ServerReplay (λ m. m.replay) replay_moved rules hooks.ResponseBody (parts hooks.ResponseBody) (begun flow rules.stream) given.end old new files new_files
+      parts_still title state moves part.ServerReplay (λ m. m.replay) replay_moved rules hooks.ResponseBody (parts hooks.ResponseBody) (begun flow rules.stream) given.left old new files new_files
       ((λ e. cc), ((λ e. cc), tt)) given.moved
   stays_elsewhere (hooks.WsMessage side) flow rules new_rules old new files new_files answer other given =
-      parts_still title state moves part.ServerReplay (λ m. m.replay) replay_moved rules (hooks.WsMessage side) (parts (hooks.WsMessage side)) (begun flow rules.stream) given.end old new files new_files
+      parts_still title state moves part.ServerReplay (λ m. m.replay) replay_moved rules (hooks.WsMessage side) (parts (hooks.WsMessage side)) (begun flow rules.stream) given.left old new files new_files
       ((λ e. cc), ((λ e. cc), tt)) given.moved
 
   -- what came of it that a whole request was asked of the recorded list
@@ -234,7 +234,7 @@ module _ {B : Type 0} (title state : B → List ℕ) (moves : B → Moves) where
     pub alone : (place : ℕ) → got replay ≡ Some place → (new.addons ≡ old.addons) × (new_files ≡ files)
 
   parts_asked : (rules : Rules) (hook : Hook) (recorded : Replaying) (others : List Part) (draft end : Draft) (old new : Movers B) (files new_files : FilesMeaning) (given : Given) →
-      is_going draft.verdict ≡ true → draft.flow ≡ given.flow → old.replay ≡ Some recorded → IsNone part.ServerReplay others → given.answer ≡ answer_by rules hook end →
+      is_going draft.verdict ≡ true → draft.flow ≡ given.flow → old.replay ≡ Some recorded → IsNone part.ServerReplay others → given.answer ≡ answer_by rules hook (allowed rules old.replay end) →
       PartsMove title state moves rules hook (part.ServerReplay ∷ others) draft old files end new new_files →
       WasAsked rules.refresh recorded given old new files new_files
   parts_asked rules hook recorded others draft end old new files new_files given going same has are answered parted =
@@ -249,7 +249,7 @@ module _ {B : Type 0} (title state : B → List ℕ) (moves : B → Moves) where
         is = is;
         used = parts_still title state moves part.ServerReplay (λ m. m.replay) replay_moved rules hook others first.after end first.mid new first.mid_files new_files are first.behind ∙ asked.used;
         said = of_place rules.refresh recorded asked.answer draft first.after given same is asked.drafted
-            (λ over. answered ∙ ap (λ d. answer_by rules hook d) (passed over).0 ∙ ended_replies rules hook first.after over);
+            (λ over. answered ∙ ap (λ d. answer_by rules hook (allowed rules old.replay d)) (passed over).0 ∙ ended_allowed rules hook old.replay first.after over);
         alone = λ place found.
             let last = passed (found_ends rules.refresh recorded asked.answer place draft first.after found asked.drafted) in
             (ap (λ (m : Movers B). m.addons) (last.1 ∙ moved.1), last.2 ∙ moved.2);
@@ -259,8 +259,9 @@ module _ {B : Type 0} (title state : B → List ℕ) (moves : B → Moves) where
       old.replay ≡ Some recorded → ChainAnswers title state moves hooks.RequestBody flow rules old files new_rules new new_files answer →
       WasAsked rules.refresh recorded (record { hook = hooks.RequestBody; flow = flow; answer = answer }) old new files new_files
   whole_asked flow rules new_rules old new files new_files recorded answer has given =
-      parts_asked rules hooks.RequestBody recorded (part.ModifyBody ∷ part.Addons ∷ []) (begun flow rules.stream) given.end old new files new_files
-      (record { hook = hooks.RequestBody; flow = flow; answer = answer }) refl refl has ((λ e. cc), ((λ e. cc), tt)) given.answered given.moved
+      parts_asked rules hooks.RequestBody recorded (part.ModifyBody ∷ part.Addons ∷ []) (begun flow rules.stream) given.left old new files new_files
+      (record { hook = hooks.RequestBody; flow = flow; answer = answer }) refl refl has ((λ e. cc), ((λ e. cc), tt))
+      (given.answered ∙ ap (λ d. answer_by rules hooks.RequestBody d) given.limited) given.moved
 
   pub found_answers : (flow : Flow) (rules new_rules : Rules) (old new : Movers B) (files new_files : FilesMeaning) (recorded : Replaying) (place : ℕ) (answer : Answer) →
       old.replay ≡ Some recorded → place_of recorded flow.request ≡ Some place →

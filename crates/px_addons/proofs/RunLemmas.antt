@@ -28,7 +28,7 @@ module _ {B S : Type 0} (title state : B → List ℕ) (moves : B → Moves) (ru
     stays = λ hook flow old old_files new new_files given is answered. answered.rules ∙ is;
     given_so = λ hook flow old old_files new new_files given is answered.
         subst (λ (r : Rules). ReadsOfRules (local_views r.local) old_files new_files) is
-        (parts_read title state moves (rules_of old) hook (parts hook) (begun flow (rules_of old).stream) answered.end (movers_in old) (movers_in new) old_files new_files answered.moved);
+        (parts_read title state moves (rules_of old) hook (parts hook) (begun flow (rules_of old).stream) answered.left (movers_in old) (movers_in new) old_files new_files answered.moved);
     failed_so = λ hook flow old old_files new_files is failed.
         subst (λ (r : Rules). ReadsOfRules (local_views r.local) old_files new_files) is
         (failed_reads title state moves hook flow (rules_of old) (movers_in old) old_files new_files failed);

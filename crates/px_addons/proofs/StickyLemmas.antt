@@ -27,13 +27,13 @@ use Rattle.px_refresh.specs.Site.{is_same_cookie, site_of}
 use Rattle.px_refresh.specs.Text.{is_same_text}
 use Rattle.px_refresh.specs.declared.authorization.StickyAuth.{StickyAuth}
 use Rattle.px_refresh.specs.declared.cookies.StickyCookies.{StickyCookies}
-use Rattle.px_addons.specs.Blocked.{blocked, blocked_with}
+use Rattle.px_addons.specs.Blocked.{blocked}
 use Rattle.px_addons.specs.Chain.{Movers, PartMoves, PartsMove, ChainAnswers, begun, is_going}
 use Rattle.px_addons.specs.Mapped.{answered_by, moved, names_for}
 use Rattle.px_addons.specs.Moving.{Moves}
 use Rattle.px_addons.specs.Parts.{made_by, parts}
 use Rattle.px_addons.specs.Sticky.{Authorizes, KeepsCookies, KeepsSet, KeepsShown, sent_cookies}
-use Rattle.px_addons.specs.StickyRuns.{HasKeptSet, HasKeptShown, all_shown, come_through, cookies_set, sent_on, set_at, shown_at, shown_in, unless_blocked, unless_local, with_rules}
+use Rattle.px_addons.specs.StickyRuns.{HasKeptSet, HasKeptShown, all_shown, cookies_set, sent_on, set_at, shown_at, shown_in, unless_blocked, unless_local, with_rules}
 use Rattle.px_addons.specs.Turns.{Given, InTurn, next_given, none_given, of_request_head, of_response_head}
 use Rattle.px_addons.specs.declared.parts.Part.{Part}
 use Rattle.px_addons.specs.declared.parts.Part.TheVariants as part
@@ -161,17 +161,17 @@ module _ {B : Type 0} (title state : B → List ℕ) (moves : B → Moves) where
   pub cookies_elsewhere : (hook : Hook) (flow : Flow) (rules new_rules : Rules) (old new : Movers B) (files new_files : FilesMeaning) (answer : Answer) →
       hook ≢ hooks.ResponseHead → ChainAnswers title state moves hook flow rules old files new_rules new new_files answer → new.cookies ≡ old.cookies
   cookies_elsewhere hooks.RequestHead flow rules new_rules old new files new_files answer other given =
-      parts_still title state moves part.KeepCookies (λ m. m.cookies) cookies_moved rules hooks.RequestHead (parts hooks.RequestHead) (begun flow rules.stream) given.end old new files new_files
+      parts_still title state moves part.KeepCookies (λ m. m.cookies) cookies_moved rules hooks.RequestHead (parts hooks.RequestHead) (begun flow rules.stream) given.left old new files new_files
       ((λ e. cc), ((λ e. cc), ((λ e. cc), ((λ e. cc), ((λ e. cc), ((λ e. cc), ((λ e. cc), ((λ e. cc), ((λ e. cc), tt))))))))) given.moved
   cookies_elsewhere hooks.RequestBody flow rules new_rules old new files new_files answer other given =
-      parts_still title state moves part.KeepCookies (λ m. m.cookies) cookies_moved rules hooks.RequestBody (parts hooks.RequestBody) (begun flow rules.stream) given.end old new files new_files
+      parts_still title state moves part.KeepCookies (λ m. m.cookies) cookies_moved rules hooks.RequestBody (parts hooks.RequestBody) (begun flow rules.stream) given.left old new files new_files
       ((λ e. cc), ((λ e. cc), ((λ e. cc), tt))) given.moved
   cookies_elsewhere hooks.ResponseHead flow rules new_rules old new files new_files answer other given = absurd (other refl)
   cookies_elsewhere hooks.ResponseBody flow rules new_rules old new files new_files answer other given =
-      parts_still title state moves part.KeepCookies (λ m. m.cookies) cookies_moved rules hooks.ResponseBody (parts hooks.ResponseBody) (begun flow rules.stream) given.end old new files new_files
+      parts_still title state moves part.KeepCookies (λ m. m.cookies) cookies_moved rules hooks.ResponseBody (parts hooks.ResponseBody) (begun flow rules.stream) given.left old new files new_files
       ((λ e. cc), ((λ e. cc), tt)) given.moved
   cookies_elsewhere (hooks.WsMessage side) flow rules new_rules old new files new_files answer other given =
-      parts_still title state moves part.KeepCookies (λ m. m.cookies) cookies_moved rules (hooks.WsMessage side) (parts (hooks.WsMessage side)) (begun flow rules.stream) given.end old new files new_files
+      parts_still title state moves part.KeepCookies (λ m. m.cookies) cookies_moved rules (hooks.WsMessage side) (parts (hooks.WsMessage side)) (begun flow rules.stream) given.left old new files new_files
       ((λ e. cc), ((λ e. cc), tt)) given.moved
 
   cookies_after : (hook : Hook) (flow : Flow) (rules new_rules : Rules) (first : StickyCookies) (set : List Cookie) (old new : Movers B) (files new_files : FilesMeaning) (answer : Answer) →
@@ -182,7 +182,7 @@ module _ {B : Type 0} (title state : B → List ℕ) (moves : B → Moves) where
   cookies_after hooks.RequestBody flow rules new_rules first set old new files new_files answer so given =
       cookies_stay first set old.cookies new.cookies so (cookies_elsewhere hooks.RequestBody flow rules new_rules old new files new_files answer (λ e. cc) given)
   cookies_after hooks.ResponseHead flow rules new_rules first set old new files new_files answer so given =
-      head_kept rules first set (begun flow rules.stream) given.end old new files new_files refl so given.moved
+      head_kept rules first set (begun flow rules.stream) given.left old new files new_files refl so given.moved
   cookies_after hooks.ResponseBody flow rules new_rules first set old new files new_files answer so given =
       cookies_stay first set old.cookies new.cookies so (cookies_elsewhere hooks.ResponseBody flow rules new_rules old new files new_files answer (λ e. cc) given)
   cookies_after (hooks.WsMessage side) flow rules new_rules first set old new files new_files answer so given =
@@ -211,7 +211,7 @@ module _ {B : Type 0} (title state : B → List ℕ) (moves : B → Moves) where
   pub no_cookies_kept : (rules : Rules) (first last : Movers B) (made : List Given) → first.cookies ≡ None → InTurn title state moves rules first made last → last.cookies ≡ None
   no_cookies_kept rules first last made none none_given = none
   no_cookies_kept rules first last made none (next_given earlier _ hook flow new_rules old _ addons files new_files answer before by split) =
-      parts_keep title state moves (λ m. m.cookies ≡ None) rules hook (asked_no_cookies rules hook) (parts hook) (begun flow rules.stream) by.end (record old { addons = addons }) last
+      parts_keep title state moves (λ m. m.cookies ≡ None) rules hook (asked_no_cookies rules hook) (parts hook) (begun flow rules.stream) by.left (record old { addons = addons }) last
       files new_files by.moved (no_cookies_kept rules first old earlier none before)
 
   -- ---- cookies, by answers one behind the other
@@ -356,23 +356,23 @@ module _ {B : Type 0} (title state : B → List ℕ) (moves : B → Moves) where
       hook ≢ hooks.RequestHead → ChainAnswers title state moves hook flow rules old files new_rules new new_files answer → new.auth ≡ old.auth
   auth_elsewhere hooks.RequestHead flow rules new_rules old new files new_files answer other given = absurd (other refl)
   auth_elsewhere hooks.RequestBody flow rules new_rules old new files new_files answer other given =
-      parts_still title state moves part.StickyAuth (λ m. m.auth) auth_moved rules hooks.RequestBody (parts hooks.RequestBody) (begun flow rules.stream) given.end old new files new_files
+      parts_still title state moves part.StickyAuth (λ m. m.auth) auth_moved rules hooks.RequestBody (parts hooks.RequestBody) (begun flow rules.stream) given.left old new files new_files
       ((λ e. cc), ((λ e. cc), ((λ e. cc), tt))) given.moved
   auth_elsewhere hooks.ResponseHead flow rules new_rules old new files new_files answer other given =
-      parts_still title state moves part.StickyAuth (λ m. m.auth) auth_moved rules hooks.ResponseHead (parts hooks.ResponseHead) (begun flow rules.stream) given.end old new files new_files
+      parts_still title state moves part.StickyAuth (λ m. m.auth) auth_moved rules hooks.ResponseHead (parts hooks.ResponseHead) (begun flow rules.stream) given.left old new files new_files
       ((λ e. cc), ((λ e. cc), ((λ e. cc), tt))) given.moved
   auth_elsewhere hooks.ResponseBody flow rules new_rules old new files new_files answer other given =
-      parts_still title state moves part.StickyAuth (λ m. m.auth) auth_moved rules hooks.ResponseBody (parts hooks.ResponseBody) (begun flow rules.stream) given.end old new files new_files
+      parts_still title state moves part.StickyAuth (λ m. m.auth) auth_moved rules hooks.ResponseBody (parts hooks.ResponseBody) (begun flow rules.stream) given.left old new files new_files
       ((λ e. cc), ((λ e. cc), tt)) given.moved
   auth_elsewhere (hooks.WsMessage side) flow rules new_rules old new files new_files answer other given =
-      parts_still title state moves part.StickyAuth (λ m. m.auth) auth_moved rules (hooks.WsMessage side) (parts (hooks.WsMessage side)) (begun flow rules.stream) given.end old new files new_files
+      parts_still title state moves part.StickyAuth (λ m. m.auth) auth_moved rules (hooks.WsMessage side) (parts (hooks.WsMessage side)) (begun flow rules.stream) given.left old new files new_files
       ((λ e. cc), ((λ e. cc), tt)) given.moved
 
   auth_after : (hook : Hook) (flow : Flow) (rules new_rules : Rules) (first : StickyAuth) (shown : List Authorization) (old new : Movers B) (files new_files : FilesMeaning) (answer : Answer) →
       HasKeptShown first shown old.auth → ChainAnswers title state moves hook flow rules old files new_rules new new_files answer →
       HasKeptShown first (shown ++ of_request_head hook (shown_at rules flow)) new.auth
   auth_after hooks.RequestHead flow rules new_rules first shown old new files new_files answer so given =
-      head_shown rules first shown (begun flow rules.stream) given.end old new files new_files refl so given.moved
+      head_shown rules first shown (begun flow rules.stream) given.left old new files new_files refl so given.moved
   auth_after hooks.RequestBody flow rules new_rules first shown old new files new_files answer so given =
       auth_stays first shown old.auth new.auth so (auth_elsewhere hooks.RequestBody flow rules new_rules old new files new_files answer (λ e. cc) given)
   auth_after hooks.ResponseHead flow rules new_rules first shown old new files new_files answer so given =
@@ -405,7 +405,7 @@ module _ {B : Type 0} (title state : B → List ℕ) (moves : B → Moves) where
   pub no_auth_kept : (rules : Rules) (first last : Movers B) (made : List Given) → first.auth ≡ None → InTurn title state moves rules first made last → last.auth ≡ None
   no_auth_kept rules first last made none none_given = none
   no_auth_kept rules first last made none (next_given earlier _ hook flow new_rules old _ addons files new_files answer before by split) =
-      parts_keep title state moves (λ m. m.auth ≡ None) rules hook (asked_no_auth rules hook) (parts hook) (begun flow rules.stream) by.end (record old { addons = addons }) last
+      parts_keep title state moves (λ m. m.auth ≡ None) rules hook (asked_no_auth rules hook) (parts hook) (begun flow rules.stream) by.left (record old { addons = addons }) last
       files new_files by.moved (no_auth_kept rules first old earlier none before)
 
   -- ---- authorizations, by answers one behind the other

@@ -1,10 +1,10 @@
 -- Addons and parts that were asked in turn, up to one of them.
-use Rattle.std.proofs.Common.{◌≡◌, true, ℕ, zero, suc, ◌+◌, ◌<◌, ◌≤◌, List, [], ◌∷◌, ◌++◌, Option, length, take, drop, slice_index_or, slice_set, refl, sym, ap, subst, arith}
+use Rattle.std.proofs.Common.{◌≡◌, Bool, true, ℕ, zero, suc, ◌+◌, ◌<◌, ◌≤◌, List, [], ◌∷◌, ◌++◌, Option, length, take, drop, slice_index_or, slice_set, refl, sym, ap, subst, arith, ◌∙◌}
 use Rattle.std.proofs.Math.Seq.{drop-cons}
 use Rattle.px_event.specs.declared.ask.Hook.{Hook}
 use Rattle.px_core.specs.declared.answerer.Draft.{Draft}
 use Rattle.px_addons.specs.Moving.{Moves}
-use Rattle.px_addons.specs.Chain.{Movers, movers_of, AddonMoves, AddonsMove, no_addon, next_addon, PartMoves, PartInTurn, by_part, PartsMove, no_part, next_part, PartFails, PartsFail, fails_here, fails_later, is_going, begun, ChainAnswers, ChainFails, part_failed, judging_failed, answer_by, intercept_of, is_judged}
+use Rattle.px_addons.specs.Chain.{Movers, movers_of, AddonMoves, AddonsMove, no_addon, next_addon, PartMoves, PartInTurn, by_part, PartsMove, no_part, next_part, PartFails, PartsFail, fails_here, fails_later, is_going, begun, ChainAnswers, ChainFails, part_failed, judging_failed, allowed_size, answer_by, intercept_of, is_judged, may_stream}
 use Rattle.px_refresh.specs.declared.authorization.StickyAuth.{StickyAuth}
 use Rattle.px_refresh.specs.declared.cookies.StickyCookies.{StickyCookies}
 use Rattle.px_replay.specs.Replaying.{Replaying}
@@ -223,18 +223,21 @@ module _ {B : Type 0} (title state : B → List ℕ) (moves : B → Moves) where
   -- what a chain answers, from what its parts made of a lent list
   pub answered : (rules : Rules) (hook : Hook) (flow : Flow) (files new_files : FilesMeaning) (replay new_replay : Option Replaying) (cookies new_cookies : Option StickyCookies)
       (auth new_auth : Option StickyAuth) (addons lent : List B) (asked : List Part)
-      (end : Draft) (new : List B) (len : ℕ) (answer : Answer) →
-      PartsMove title state moves rules hook asked (begun flow rules.stream) (movers_of replay cookies auth lent) files end (movers_of new_replay new_cookies new_auth new) new_files →
-      asked ≡ parts hook → lent ≡ addons → length new ≡ len → answer ≡ answer_by rules hook end →
+      (left : Draft) (new : List B) (len : ℕ) (streams : Bool) (size : Option ℕ) (answer : Answer) →
+      PartsMove title state moves rules hook asked (begun flow rules.stream) (movers_of replay cookies auth lent) files left (movers_of new_replay new_cookies new_auth new) new_files →
+      asked ≡ parts hook → lent ≡ addons → length new ≡ len → streams ≡ may_stream rules.intercept replay → size ≡ allowed_size streams left.stream →
+      answer ≡ answer_by rules hook (record left { stream = size }) →
       ChainAnswers title state moves hook flow rules (movers_of replay cookies auth addons) files rules
       (movers_of new_replay new_cookies new_auth (take len (new ++ drop (length new) addons))) new_files answer
-  answered rules hook flow files new_files replay new_replay cookies new_cookies auth new_auth addons lent asked end new len answer moved table same counted is =
+  answered rules hook flow files new_files replay new_replay cookies new_cookies auth new_auth addons lent asked left new len streams size answer moved table same counted may limited is =
       record {
-        end = end;
-        moved = subst (λ l. PartsMove title state moves rules hook (parts hook) (begun flow rules.stream) (movers_of replay cookies auth addons) files end (movers_of new_replay new_cookies new_auth l) new_files)
+        left = left;
+        moved = subst (λ l. PartsMove title state moves rules hook (parts hook) (begun flow rules.stream) (movers_of replay cookies auth addons) files left (movers_of new_replay new_cookies new_auth l) new_files)
             (sym (written_back new addons len counted))
-            (subst (λ l. PartsMove title state moves rules hook (parts hook) (begun flow rules.stream) (movers_of replay cookies auth l) files end (movers_of new_replay new_cookies new_auth new) new_files) same
-            (subst (λ l. PartsMove title state moves rules hook l (begun flow rules.stream) (movers_of replay cookies auth lent) files end (movers_of new_replay new_cookies new_auth new) new_files) table moved));
+            (subst (λ l. PartsMove title state moves rules hook (parts hook) (begun flow rules.stream) (movers_of replay cookies auth l) files left (movers_of new_replay new_cookies new_auth new) new_files) same
+            (subst (λ l. PartsMove title state moves rules hook l (begun flow rules.stream) (movers_of replay cookies auth lent) files left (movers_of new_replay new_cookies new_auth new) new_files) table moved));
+        end = record left { stream = size };
+        limited = ap (λ (s : Option ℕ). record left { stream = s }) (limited ∙ ap (λ m. allowed_size m left.stream) may);
         answered = is;
         rules = refl;
       }

@@ -1,8 +1,9 @@
 -- Which answers wait, and which are replies.
-use Rattle.std.proofs.Common.{◌≡◌, ◌≢◌, Bool, true, false, ◌&&◌, Option, None, Some, refl, sym, ap, ◌∙◌}
+use Rattle.std.proofs.Common.{◌≡◌, ◌≢◌, ℕ, Bool, true, false, ◌&&◌, Option, None, Some, refl, sym, ap, ◌∙◌}
+use Rattle.px_message.specs.declared.flow.Flow.{Flow}
 use Rattle.px_event.specs.declared.ask.Hook.{Hook}
 use Rattle.px_event.specs.declared.reply.Reply.{Reply}
-use Rattle.px_core.specs.Drafts.{reply_of}
+use Rattle.px_core.specs.Drafts.{reply_by, reply_of}
 use Rattle.px_core.specs.declared.answerer.Answer.{Answer}
 use Rattle.px_core.specs.declared.answerer.Answer.TheVariants as answers
 use Rattle.px_core.specs.declared.answerer.Draft.{Draft}
@@ -10,7 +11,8 @@ use Rattle.px_core.specs.declared.answerer.Verdict.{Verdict}
 use Rattle.px_core.specs.declared.answerer.Verdict.TheVariants as verdicts
 use Rattle.px_filter.specs.Expression.{Expression}
 use Rattle.px_filter.specs.Holds.{holds}
-use Rattle.px_addons.specs.Chain.{answer_by, answer_if, intercept_of, is_going, may_wait, waits}
+use Rattle.px_replay.specs.Replaying.{Replaying}
+use Rattle.px_addons.specs.Chain.{allowed, answer_by, answer_if, intercept_of, is_going, may_wait, waits}
 use Rattle.px_addons.specs.QuietLaws.{without_a_filter}
 use Rattle.px_addons.specs.declared.rules.Rules.{Rules}
 
@@ -26,6 +28,19 @@ ended (Some filter) hook draft over = ended_by (may_wait hook) (is_going draft.v
 
 pub ended_replies : (rules : Rules) (hook : Hook) (draft : Draft) → is_going draft.verdict ≡ false → answer_by rules hook draft ≡ answers.Reply (reply_of draft)
 ended_replies rules hook draft over = ap (λ w. answer_if w draft) (ended (intercept_of rules) hook draft over)
+
+-- of what ended the order the reply allows no size, so nothing is taken away of it
+over_replies : (verdict : Verdict) (flow : Flow) (size other : Option ℕ) → is_going verdict ≡ false → reply_by verdict flow size ≡ reply_by verdict flow other
+over_replies verdicts.Go flow size other over = absurd cc
+over_replies (verdicts.Respond response) flow size other over = refl
+over_replies verdicts.Kill flow size other over = refl
+over_replies verdicts.Discard flow size other over = refl
+
+pub ended_allowed : (rules : Rules) (hook : Hook) (replay : Option Replaying) (draft : Draft) → is_going draft.verdict ≡ false →
+    answer_by rules hook (allowed rules replay draft) ≡ answers.Reply (reply_of draft)
+ended_allowed rules hook replay draft over =
+    ended_replies rules hook (allowed rules replay draft) over
+    ∙ ap (λ r. answers.Reply r) (over_replies draft.verdict draft.flow (allowed rules replay draft).stream draft.stream over)
 
 -- ---- what waits, exactly
 

@@ -1,7 +1,7 @@
 -- What a chain makes of a flow, of itself and of files, and what it answers.
 --
 -- An addon stands here as a value of any type B, with a name, a state and a relation for each.
-use Rattle.std.specs.Prelude.{◌≡◌, ℕ, Bool, true, false, ◌&&◌, List, [], ◌∷◌, Option, None, Some, is_some, option_map, ◌<◌, length, remove}
+use Rattle.std.specs.Prelude.{◌≡◌, ℕ, Bool, true, false, ◌&&◌, List, [], ◌∷◌, Option, None, Some, is_some, is_none, option_map, ◌<◌, length, remove}
 use Rattle.px_message.specs.declared.flow.Flow.{Flow}
 use Rattle.px_event.specs.declared.ask.Hook.{Hook}
 use Rattle.px_event.specs.declared.ask.Hook.TheVariants as hooks
@@ -67,6 +67,20 @@ answer_if false draft = answers.Reply (reply_of draft)
 -- the answer of a draft that all parts were asked about: it waits, or is the reply of the draft
 abbrev pub answer_by : Rules → Hook → Draft → Answer
 answer_by rules hook draft = answer_if (waits (intercept_of rules) hook draft) draft
+
+-- whether a body may be streamed at all: not where flows wait by a filter, nor where recorded flows answer
+abbrev pub may_stream : {A B : Type 0} → Option A → Option B → Bool
+may_stream None replay = is_none replay
+may_stream (Some filter) replay = false
+
+-- the size that is allowed, of the one that a draft has
+abbrev pub allowed_size : Bool → Option ℕ → Option ℕ
+allowed_size true size = size
+allowed_size false size = None
+
+-- the draft that is answered, by the one that the parts left: it allows no size where no body may be streamed, whatever a part set
+abbrev pub allowed : Rules → Option Replaying → Draft → Draft
+allowed rules replay draft = record draft { stream = allowed_size (may_stream rules.intercept replay) draft.stream }
 
 -- the draft that the first part gets
 abbrev pub begun : Flow → Option ℕ → Draft
@@ -171,11 +185,13 @@ module _ {B : Type 0} (title state : B → List ℕ) (moves : B → Moves) where
         PartsMove rules hook (one ∷ others) draft old files end new new_files
 
   -- The answer to a hook about a flow, by rules, what moves and files before and after: what the draft is when all parts of the
-  -- hook were asked, or one ended the order; or that the hook waits with that draft.
+  -- hook were asked, or one ended the order, and the size was taken away where none is allowed; or that the hook waits with that draft.
   pub record ChainAnswers (hook : Hook) (flow : Flow) (old_rules : Rules) (old : Movers B) (old_files : FilesMeaning)
       (new_rules : Rules) (new : Movers B) (new_files : FilesMeaning) (answer : Answer) : Type 0 where
+    pub left : Draft
+    pub moved : PartsMove old_rules hook (parts hook) (begun flow old_rules.stream) old old_files left new new_files
     pub end : Draft
-    pub moved : PartsMove old_rules hook (parts hook) (begun flow old_rules.stream) old old_files end new new_files
+    pub limited : end ≡ allowed old_rules old.replay left
     pub answered : answer ≡ answer_by old_rules hook end
     pub rules : new_rules ≡ old_rules
 

@@ -12,3 +12,4 @@ pub mod Counter
 pub mod Quiet
 pub mod QuietLaws
 pub mod Numbering
+pub mod Sizes

@@ -1,5 +1,5 @@
 -- A chain that changes nothing answers so, leaves files as they are, and stays such a chain. One without map local rules reads nothing.
-use Rattle.std.proofs.Common.{◌≡◌, ℕ, Bool, option_map, List, [], Option, Some, None, refl, sym, ap, subst, ◌∙◌}
+use Rattle.std.proofs.Common.{◌≡◌, ℕ, Bool, true, false, option_map, List, [], Option, Some, None, refl, sym, ap, subst, ◌∙◌}
 use Rattle.std.proofs.lemmas.List.Elements.{All-nil}
 use Rattle.px_message.specs.declared.flow.Flow.{Flow}
 use Rattle.px_message.specs.declared.response.Response.{Response}
@@ -26,7 +26,7 @@ use Rattle.px_addons.specs.Mapped.{MapsLocal, answered_by, moved, names_for}
 use Rattle.px_addons.specs.Moving.{KeepsDrafts, Moves}
 use Rattle.px_addons.specs.Parts.{content_of, is_of_response, made_by, parts}
 use Rattle.px_core.specs.Drafts.{reply_of}
-use Rattle.px_addons.specs.Chain.{Movers, AddonMoves, by_addon, past_addon, AddonsMove, no_addon, next_addon, ByRules, PartMoves, PartInTurn, by_part, past_part, PartsMove, no_part, next_part, PartFails, PartsFail, fails_here, fails_later, ChainFails, part_failed, judging_failed, begun, ChainAnswers, answer_by, answer_if, waits}
+use Rattle.px_addons.specs.Chain.{Movers, AddonMoves, by_addon, past_addon, AddonsMove, no_addon, next_addon, ByRules, PartMoves, PartInTurn, by_part, past_part, PartsMove, no_part, next_part, PartFails, PartsFail, fails_here, fails_later, ChainFails, part_failed, judging_failed, begun, ChainAnswers, allowed, allowed_size, answer_by, answer_if, may_stream, waits}
 use Rattle.px_addons.specs.Quiet.{AllKeepDrafts, AreQuiet, ChangesNothing, NoRules, goes_on_unchanged}
 use Rattle.px_addons.specs.Replays.{Replays}
 use Rattle.px_addons.specs.Sticky.{Authorizes, KeepsCookies, sent_cookies}
@@ -57,6 +57,11 @@ no_rule_changes rules hook part.Addons draft none = refl
 -- without a filter of the flows that wait a draft is answered by its reply
 pub without_a_filter : (rules : Rules) (hook : Hook) (draft : Draft) → rules.intercept ≡ None → answer_by rules hook draft ≡ answers.Reply (reply_of draft)
 without_a_filter rules hook draft none = ap (λ filter. answer_if (waits (option_map expression filter) hook draft) draft) none
+
+-- no size stays none
+none_allowed : (may : Bool) → allowed_size may None ≡ None
+none_allowed true = refl
+none_allowed false = refl
 
 -- ---- without map local rules
 
@@ -204,7 +209,7 @@ module _ {B : Type 0} (title state : B → List ℕ) (moves : B → Moves) where
         ChangesNothing moves new_rules new
     stays_quiet quiet given = record {
       no_rules = subst (λ r. NoRules r) (sym given.rules) quiet.no_rules;
-      quiet = (parts_keep rules hook (parts hook) (begun flow rules.stream) given.end old new files new_files given.moved quiet.no_rules quiet.quiet).1;
+      quiet = (parts_keep rules hook (parts hook) (begun flow rules.stream) given.left old new files new_files given.moved quiet.no_rules quiet.quiet).1;
     }
 
     pub answers_unchanged : ChangesNothing moves rules old → ChainAnswers title state moves hook flow rules old files new_rules new new_files answer →
@@ -212,12 +217,15 @@ module _ {B : Type 0} (title state : B → List ℕ) (moves : B → Moves) where
     answers_unchanged quiet given =
         given.answered
         ∙ without_a_filter rules hook given.end quiet.no_rules.intercept
-        ∙ ap (λ d. answers.Reply (reply_of d)) (parts_keep rules hook (parts hook) (begun flow rules.stream) given.end old new files new_files given.moved quiet.no_rules quiet.quiet).0
-        ∙ ap (λ s. answers.Reply (reply_of (begun flow s))) quiet.no_rules.stream
+        ∙ ap (λ d. answers.Reply (reply_of d)) given.limited
+        ∙ ap (λ d. answers.Reply (reply_of (allowed rules old.replay d)))
+        (parts_keep rules hook (parts hook) (begun flow rules.stream) given.left old new files new_files given.moved quiet.no_rules quiet.quiet).0
+        ∙ ap (λ s. answers.Reply (reply_of (allowed rules old.replay (begun flow s)))) quiet.no_rules.stream
+        ∙ ap (λ s. answers.Reply (reply_of (begun flow s))) (none_allowed (may_stream rules.intercept old.replay))
 
     -- an answer leaves files as they are
     pub answers_leave : local_views rules.local ≡ [] → ChainAnswers title state moves hook flow rules old files new_rules new new_files answer → new_files ≡ files
-    answers_leave none given = parts_leave rules hook (parts hook) (begun flow rules.stream) given.end old new files new_files given.moved none
+    answers_leave none given = parts_leave rules hook (parts hook) (begun flow rules.stream) given.left old new files new_files given.moved none
 
   -- and so does one that ran out of memory
   pub failures_leave : (hook : Hook) (flow : Flow) (rules : Rules) (old : Movers B) (files new_files : FilesMeaning) → local_views rules.local ≡ [] →

@@ -1,8 +1,8 @@
 //! The chain of rules, recorded flows and addons, which answers hooks.
 //!
 //! Both loops ask all that they go over, and each turn begins with the verdict: behind one that is not Go the turn does nothing.
-ghost use Rattle.std.specs.Prelude.{◌≡◌, true, false, None, MatchOption, OnErr, OnOk};
-ghost use Rattle.px_addons.specs.Chain.{AddonMoves, AddonsMove, IsFirstOfName, PartFails, PartInTurn, PartsFail, PartsMove, is_going, movers_of};
+ghost use Rattle.std.specs.Prelude.{◌≡◌, true, false, None, is_none, MatchOption, OnErr, OnOk};
+ghost use Rattle.px_addons.specs.Chain.{AddonMoves, AddonsMove, IsFirstOfName, PartFails, PartInTurn, PartsFail, PartsMove, allowed_size, is_going, may_stream, movers_of};
 ghost use Rattle.px_addons.specs.Moving.{SameMoves};
 ghost use Rattle.px_addons.specs.Quiet.{AllKeepDrafts, NoRules};
 ghost use Rattle.px_core.specs.Addons.{has_name_by};
@@ -25,6 +25,9 @@ use std::alloc::Global;
 /// (`specs/Chain.antt`, `ChainAnswers`). The draft begins with the flow as it is asked about, the verdict Go and the rules' `stream`. Where a
 /// request, a response or a WebSocket's message is whole, the parts let the flow go on, and the rules' `intercept` holds on the flow as they left
 /// it, the answer waits with the draft (`answer_by`). Files are read for map local rules that match the flow, and for nothing else.
+///
+/// The answer allows the size that the draft has then, above which a body is streamed: that of the rules, or the one that an addon set. With a recorded list, or
+/// with the rules' `intercept`, it allows none, whatever an addon set (`allowed`).
 ///
 /// The rules never change. The recorded list is none of them here, since each whole request is asked of it and may use a place; nor are the kept
 /// cookies, which each response's head may change, and the kept authorizations, which each request's head may.
@@ -91,6 +94,7 @@ impl Answerer for Chain {
         files: &mut F,
     ) -> Result<Answer, NoMemory> {
         let alloc = *self.addons.allocator();
+        let streams = may_stream(&self.rules, &self.replay);
         let mut draft = Draft {
             flow,
             stream: self.rules.stream,
@@ -108,7 +112,10 @@ impl Answerer for Chain {
             &mut draft,
             files,
         ) {
-            Ok(()) => self.rules.answer_by(hook, draft),
+            Ok(()) => {
+                draft.stream = allowed_size(streams, draft.stream);
+                self.rules.answer_by(hook, draft)
+            }
             Err(e) => {
                 drop(draft);
                 Err(e)
@@ -151,6 +158,30 @@ impl Kind for Chain {
           answers_unchanged (λ b. (Addon-box b).title b.value) (λ b. (Addon-box b).state b.value) (λ b. (Addon-box b).moves b.value)
           hook flow old.rules (movers_of old.replay old.cookies old.auth old.addons.items) old_files new.rules (movers_of new.replay new.cookies new.auth new.addons.items) new_files given quiet by;
     } };
+}
+
+// Whether a body may be streamed at all.
+fn may_stream(rules: &Rules, replay: &Option<Recorded>) -> bool
+    ensures { result ≡ may_stream rules.now.intercept replay.now }
+{
+    match &rules.intercept {
+        None => is_absent(replay),
+        Some(_) => false,
+    }
+}
+
+// Whether no recorded flow answers.
+fn is_absent(replay: &Option<Recorded>) -> bool
+    ensures { result ≡ is_none replay.now }
+{
+    replay.is_none()
+}
+
+// The size that is allowed, of the one that a draft has.
+fn allowed_size(streams: bool, size: Option<u64>) -> Option<u64>
+    ensures { result ≡ allowed_size streams size }
+{
+    if streams { size } else { None }
 }
 
 // Asks the parts in their order.

@@ -1,5 +1,5 @@
 //! Laws of chains and addons. Each function does nothing; what it ensures is the law.
-ghost use Rattle.std.specs.Prelude.{◌≡◌, ◌≢◌, ◌==◌, ℕ, Bool, true, List, [], ◌∷◌, map, None, Some, Option, slice_get, if◌then◌else◌};
+ghost use Rattle.std.specs.Prelude.{◌≡◌, ◌≢◌, ◌⊎◌, ◌==◌, ℕ, Bool, true, List, [], ◌∷◌, map, None, Some, Option, slice_get, if◌then◌else◌};
 ghost use Rattle.px_addons.specs.Chain.{AddonsMove, ChainAnswers, ChainFails, Movers, SameAddons, TwoInTurn, intercept_of, may_wait, movers_of};
 ghost use Rattle.px_addons.specs.Counter.{counted, counts};
 ghost use Rattle.px_addons.specs.Mapped.{ReadsOfRules};
@@ -7,6 +7,7 @@ ghost use Rattle.px_addons.specs.Moving.{KeepsDrafts};
 ghost use Rattle.px_addons.specs.Quiet.{NoRules};
 ghost use Rattle.px_addons.specs.ReplayRuns.{AreOfRecorded};
 ghost use Rattle.px_addons.specs.Replays.{moment_at, sent_as};
+ghost use Rattle.px_addons.specs.Sizes.{AllAllowNone, AllKeepSizes, KeepsSizes, size_of};
 ghost use Rattle.px_addons.specs.StickyRuns.{HasKeptSet, HasKeptShown, all_shown, cookies_set};
 ghost use Rattle.px_addons.specs.Turns.{Given, InTurn};
 ghost use Rattle.px_addons.specs.declared.rules.Rules.{Rules};
@@ -182,6 +183,28 @@ pub fn a_chain_without_a_filter_lets_nothing_wait(addon: &Box<dyn Addon>)
         ChainAnswers title state moves hook flow rules old files new_rules new new_files answer → new_rules.intercept ≡ rules.intercept }
 {}
 
+/// Where recorded flows answer, or flows wait by a filter, no answer allows a size above which a body is streamed, whatever the option and the addons say. So it
+/// is of any number of answers one behind the other.
+pub fn nothing_is_streamed_where_flows_are_recorded_or_wait(addon: &Box<dyn Addon>)
+    ensures recorded { (hook : AskedHook) (flow : Flow) (rules new_rules : Rules) (files new_files : FilesMeaning) (old new : Movers _) (answer : Answer) →
+        old.replay ≢ None → ChainAnswers title state moves hook flow rules old files new_rules new new_files answer → size_of answer ≡ None }
+    ensures waiting { (hook : AskedHook) (flow : Flow) (rules new_rules : Rules) (files new_files : FilesMeaning) (old new : Movers _) (answer : Answer) →
+        rules.intercept ≢ None → ChainAnswers title state moves hook flow rules old files new_rules new new_files answer → size_of answer ≡ None }
+    ensures run { (rules : Rules) (first last : Movers _) (made : List Given) → (rules.intercept ≢ None) ⊎ (first.replay ≢ None) →
+        InTurn title state moves rules first made last → AllAllowNone made }
+{}
+
+/// Everywhere else an answer that goes on allows the size that the draft had when all parts were asked: the one that an addon set stands (`stands`), and where
+/// no addon sets one it is that of the option (`option`).
+pub fn an_addons_size_stands(addon: &Box<dyn Addon>)
+    ensures stands { (hook : AskedHook) (flow goes : Flow) (rules new_rules : Rules) (files new_files : FilesMeaning) (old new : Movers _) (size : Option ℕ) →
+        (given : ChainAnswers title state moves hook flow rules old files new_rules new new_files (answers.Reply (replies.Go goes size))) →
+        rules.intercept ≡ None → old.replay ≡ None → size ≡ given.left.stream }
+    ensures option { (hook : AskedHook) (flow goes : Flow) (rules new_rules : Rules) (files new_files : FilesMeaning) (old new : Movers _) (size : Option ℕ) →
+        ChainAnswers title state moves hook flow rules old files new_rules new new_files (answers.Reply (replies.Go goes size)) →
+        rules.intercept ≡ None → old.replay ≡ None → AllKeepSizes moves old.addons → size ≡ rules.stream }
+{}
+
 /// Of two addons the second is asked about the draft that the first left.
 pub fn addons_see_what_those_before_did(addon: &Box<dyn Addon>)
     ensures { (hook : AskedHook) (draft end : Draft) (one other : _) (news : List _) → AddonsMove title state moves hook draft (one ∷ other ∷ []) end news →
@@ -191,5 +214,6 @@ pub fn addons_see_what_those_before_did(addon: &Box<dyn Addon>)
 /// A flow counter changes no draft, and its count goes up by one at each request's head.
 pub fn a_flow_counter_changes_no_draft()
     ensures keeps { KeepsDrafts counts }
+    ensures sizes { KeepsSizes counts }
     ensures counts { (hook : AskedHook) (count : ℕ) (draft after : Draft) (new : List ℕ) → counts hook (count ∷ []) draft new after → new ≡ counted hook count ∷ [] }
 {}

@@ -39,6 +39,10 @@
 //! wait is judged on the flow as they left it: where it holds, the answer waits for an operator with that draft, and else it is the reply of
 //! the draft (`answer_by`).
 //!
+//! The answer allows the size that the rules have, above which a body is streamed, unless an addon set another one for its flow, or none. A chain with a recorded
+//! list, or with that filter, allows none, whatever its addons say (`allowed`, and laws of it in `specs/Sizes.antt`): what a recorded response or an operator may
+//! change is never on its way already.
+//!
 //! So an answer is one relation between a hook, a flow, the rules, recorded list, addons and files before and after, and the answer itself
 //! (`ChainAnswers`). It leaves nothing open but what the addons' own relations leave open. Rules at another hook, an addon that is skipped
 //! or asked twice, one that gets the flow as it was before the rules, a part that runs behind one that ended the order, a recorded flow that
@@ -77,10 +81,10 @@ pub use laws::{
     a_chain_keeps_what_all_requests_showed, a_chain_that_changes_nothing,
     a_chain_without_a_filter_lets_nothing_wait, a_chain_without_map_local_reads_nothing,
     a_flow_counter_changes_no_draft, a_flow_that_the_filter_takes_waits,
-    addons_see_what_those_before_did, an_answer_keeps_its_addons,
+    addons_see_what_those_before_did, an_addons_size_stands, an_answer_keeps_its_addons,
     each_whole_request_gets_the_least_place, map_local_answers_with_short_responses,
-    map_local_reads_only_what_rules_name, recorded_flows_come_first_at_a_whole_request,
-    without_recorded_flows_no_date_is_moved,
+    map_local_reads_only_what_rules_name, nothing_is_streamed_where_flows_are_recorded_or_wait,
+    recorded_flows_come_first_at_a_whole_request, without_recorded_flows_no_date_is_moved,
 };
 pub use numbering::Numbering;
 pub use parts::Part;

@@ -47,7 +47,8 @@ pub struct Rules {
     /// Authorizations that requests showed, which later requests of the same host, byte by byte, are given where the filter holds and they show none
     /// (mitmproxy's option `stickyauth`). The port plays no part.
     pub auth: Option<StickyAuth>,
-    /// Above how many bytes a body may be streamed; an addon may change it for one flow (mitmproxy's option `stream_large_bodies`).
+    /// Above how many bytes a body is streamed; none says that each is kept. An addon may change it for one flow; with a recorded list, or with
+    /// `intercept`, nothing is streamed (mitmproxy's option `stream_large_bodies`).
     pub stream: Option<u64>,
     /// Which flows wait for an operator where all else lets them go on; none says no flow (mitmproxy's option `intercept`).
     pub intercept: Option<Filter>,

@@ -21,14 +21,16 @@ use Rattle.px_exchange.specs.declared.taken.Taken.{Taken}
 use Rattle.px_exchange.specs.declared.taken.Taken.TheVariants.{GoesOn, Responds, Kills}
 use Rattle.px_exchange.specs.declared.place.Place.{Place}
 use Rattle.px_exchange.specs.declared.terms.Terms.{Terms}
-use Rattle.px_chain.specs.Chain.{behind as behind_ask, behind_flow, dial_leads, finish_by, given_at, goes_on_by, http_chain, leaving, look, parked_for, pass, pass_body, sequence, so_far, turn, turn_answer, turn_body, turn_head, turn_judged, turn_response, turn_returned, turn_taken_answer, turn_taken_body, turn_taken_given, turn_taken_head, turn_taken_returned, turn_taken_whole}
+use Rattle.px_chain.specs.Chain.{behind as behind_ask, behind_flow, dial_leads, finish_by, given_at, goes_on_by, http_chain, leaving, look, look_coming, parked_for, pass, pass_body, pass_came, pass_kept, sequence, so_far, turn, turn_answer, turn_body, turn_head, turn_judged, turn_response, turn_returned, turn_taken_answer, turn_taken_body, turn_taken_given, turn_taken_head, turn_taken_returned, turn_taken_whole}
 use Rattle.px_exchange.specs.Finds.{or_leaves, look_judged, look_head, look_body, look_answer_head, look_answer, look_returned, is_relayed}
 use Rattle.px_exchange.specs.Flows.{ask_of, response_of, with_answer, with_body, with_returned}
 use Rattle.px_chain.proofs.Quiet.{AllQuiet, LooksQuiet, any_flow}
 use Rattle.px_chain.specs.Sights.{Sight, Standing, answers_in, request_in, server_in, server_parked, sight_over}
-use Rattle.px_chain.specs.Stages.{At, Stage, busy, connection, given_body, given_head, idle, next, over, request_body, response_body, response_head, unparked, upgraded}
-use Rattle.px_chain.proofs.QuietLemmas.{behind_quiet, so_far_quiet, turn_quiet, finds_quiet_end}
+use Rattle.px_chain.specs.Coming.{Came, allowed_by, came_in, goes_on_behind, streaming, streams_in}
+use Rattle.px_chain.specs.Stages.{At, Sent, Stage, busy, coming_down, connection, given_body, given_head, idle, next, over, request_body, response_body, response_head, unparked, upgraded}
+use Rattle.px_chain.proofs.QuietLemmas.{behind_quiet, finds_quiet_end, pass_quiet, so_far_quiet, turn_quiet}
 use Rattle.px_resend.specs.Dialled.{dials_in}
+use Rattle.px_resend.proofs.OwedLemmas.{is_any}
 use Rattle.px_app.specs.Servers.{CountsFrom}
 use Rattle.px_app.proofs.ServerLemmas.{CountsDials}
 
@@ -102,6 +104,13 @@ returned_not flow (complete head body trailers size) moment used closed = refl
 returned_not flow (bad_head fault) moment used closed = tt
 returned_not flow (bad_body fault head body) moment used closed = tt
 
+coming_not : (flow : Flow) (item : Item ReadResponse) (moment : ℕ) (used : Used) (closed : Bool) → DialsNot (look_coming flow item moment used closed)
+coming_not flow missing moment used closed = tt
+coming_not flow (part head body) moment used closed = tt
+coming_not flow (complete head body trailers size) moment used closed = tt
+coming_not flow (bad_head fault) moment used closed = tt
+coming_not flow (bad_body fault head body) moment used closed = tt
+
 -- what is found over a stage that is not the dialling one
 abbrev FindsNot : Terms → Stage → Sight → Type 0
 FindsNot terms stage seen = DialsNot (look terms stage seen)
@@ -116,7 +125,8 @@ looks terms n (idle at) seen is = counts_found n _ (leaves_not _ _ _ (head_not t
 looks terms n (busy at flow (request_body given)) seen is = counts_found n _ (leaves_not _ _ _ (body_not flow _ _ _ _)) (finds_quiet_end terms (busy at flow (request_body given)) seen)
 looks terms n (busy at flow connection) seen is = (is, tt)
 looks terms n (busy at flow (response_head side how)) seen is = counts_found n _ (leaves_not _ _ _ (answer_not flow (answers_in flow.request seen).final seen.now (server_in side seen) seen.closed)) (finds_quiet_end terms (busy at flow (response_head side how)) seen)
-looks terms n (busy at flow (response_body side how)) seen is = counts_found n _ (leaves_not _ _ _ (returned_not flow _ _ _ _)) (finds_quiet_end terms (busy at flow (response_body side how)) seen)
+looks terms n (busy at flow (response_body side how most)) seen is = counts_found n _ (leaves_not _ _ _ (returned_not flow _ _ _ _)) (finds_quiet_end terms (busy at flow (response_body side how most)) seen)
+looks terms n (busy at flow (coming_down side how)) seen is = counts_found n _ (leaves_not _ _ _ (coming_not flow (answers_in flow.request seen).final _ _ _)) (finds_quiet_end terms (busy at flow (coming_down side how)) seen)
 looks terms n (busy at flow (upgraded side)) seen is = tt
 looks terms n (busy at flow given_head) seen is = tt
 looks terms n (busy at flow given_body) seen is = tt
@@ -172,19 +182,22 @@ dial_on n place at flow reply.Discard is = tt
 dial_on n place at flow reply.Dialled is = ap (λ (k : ℕ). k + 1) is
 dial_on n place at flow (reply.Refused fault) is = tt
 
-taken_answer_leads : (n : ℕ) (at : At) (flow : Flow) (side : ℕ) (taken : Taken Response) (moment : ℕ) (used : Used) (closed : Bool) → at.dials ≡ n →
-    Dialled n (turn_taken_answer at flow side taken moment used closed).stage
-taken_answer_leads n at flow side (GoesOn response) moment used closed is = is
-taken_answer_leads n at flow side (Responds response) moment used closed is = tt
-taken_answer_leads n at flow side Kills moment used closed is = tt
+taken_answer_leads : (n : ℕ) (at : At) (flow : Flow) (side : ℕ) (most : Option ℕ) (taken : Taken Response) (moment : ℕ) (used : Used) (closed : Bool) → at.dials ≡ n →
+    Dialled n (turn_taken_answer at flow side most taken moment used closed).stage
+taken_answer_leads n at flow side most (GoesOn response) moment used closed is = is
+taken_answer_leads n at flow side most (Responds response) moment used closed is = tt
+taken_answer_leads n at flow side most Kills moment used closed is = tt
 
-answer_leads : (n : ℕ) (at : At) (flow : Flow) (side : ℕ) (item : Item ReadResponse) (seen : Sight) (answer : Timed Reply) → at.dials ≡ n →
-    Dialled n (turn_answer at flow side item seen answer).stage
-answer_leads n at flow side missing seen answer is = tt
-answer_leads n at flow side (part head body) seen answer is = taken_answer_leads n at (with_answer flow (response_of head) seen.now) side _ answer.moment _ _ is
-answer_leads n at flow side (complete head body trailers size) seen answer is = taken_answer_leads n at (with_answer flow (response_of head) seen.now) side _ answer.moment _ _ is
-answer_leads n at flow side (bad_head fault) seen answer is = tt
-answer_leads n at flow side (bad_body fault head body) seen answer is = taken_answer_leads n at (with_answer flow (response_of head) seen.now) side _ answer.moment _ _ is
+answer_leads : (terms : Terms) (n : ℕ) (at : At) (flow : Flow) (side : ℕ) (item : Item ReadResponse) (seen : Sight) (answer : Timed Reply) → at.dials ≡ n →
+    Dialled n (turn_answer terms at flow side item seen answer).stage
+answer_leads terms n at flow side missing seen answer is = tt
+answer_leads terms n at flow side (part head body) seen answer is =
+    taken_answer_leads n at (with_answer flow (response_of head) seen.now) side (allowed_by terms.streams answer.value) _ answer.moment _ _ is
+answer_leads terms n at flow side (complete head body trailers size) seen answer is =
+    taken_answer_leads n at (with_answer flow (response_of head) seen.now) side (allowed_by terms.streams answer.value) _ answer.moment _ _ is
+answer_leads terms n at flow side (bad_head fault) seen answer is = tt
+answer_leads terms n at flow side (bad_body fault head body) seen answer is =
+    taken_answer_leads n at (with_answer flow (response_of head) seen.now) side (allowed_by terms.streams answer.value) _ answer.moment _ _ is
 
 behind : (n : ℕ) (stays : Bool) (at : At) → at.dials ≡ n → Dialled n (behind_flow stays at)
 behind n true at is = is
@@ -244,12 +257,23 @@ passed_body n at flow (Some response) (complete head body trailers used) now is 
 passed_body n at flow (Some response) (bad_head fault) now is = is
 passed_body n at flow (Some response) (bad_body fault head body) now is = is
 
-passed : (n : ℕ) (stage : Stage) (seen : Sight) → Dialled n stage → Dialled n (pass stage seen)
+-- a streamed response that is whole
+passed_came : (n : ℕ) (at : At) (flow : Flow) (side : ℕ) (how : Sent) (seen : Sight) (came : Option Came) → at.dials ≡ n → Dialled n (pass_came at flow side how seen came).stage
+passed_came n at flow side how seen None is = is
+passed_came n at flow side how seen (Some came) is = behind n (goes_on_behind at.flow flow.request came) (unparked at) is
+
+passed_kept : (n : ℕ) (streams : Bool) (at : At) (flow : Flow) (side : ℕ) (how : Sent) (most : Option ℕ) (seen : Sight) → at.dials ≡ n →
+    Dialled n (pass_kept streams at flow side how most seen).stage
+passed_kept n true at flow side how most seen is = passed_came n at (streaming flow) side how seen (came_in (streaming flow) seen) is
+passed_kept n false at flow side how most seen is = is
+
+passed : (n : ℕ) (stage : Stage) (seen : Sight) → Dialled n stage → Dialled n (pass stage seen).stage
 passed n (idle at) seen is = is
 passed n (busy at flow (request_body given)) seen is = passed_body n at flow given (request_in seen) seen.now is
 passed n (busy at flow connection) seen is = is
 passed n (busy at flow (response_head side how)) seen is = is
-passed n (busy at flow (response_body side how)) seen is = is
+passed n (busy at flow (response_body side how most)) seen is = passed_kept n (streams_in flow most seen) at flow side how most seen is
+passed n (busy at flow (coming_down side how)) seen is = passed_came n at flow side how seen (came_in flow seen) is
 passed n (busy at flow (upgraded side)) seen is = is
 passed n (busy at flow given_head) seen is = is
 passed n (busy at flow given_body) seen is = is
@@ -273,8 +297,9 @@ turns terms n (busy at flow (request_body given)) seen ask answer is asks = stay
 turns terms n (busy at flow connection) seen ask answer is asks =
     let P : ℕ → Type 0 = λ k. Dialled (n + k) (dial_leads terms.place at flow answer.value) in
     subst P (sym (dial_asked at flow seen terms ask asks)) (dial_on n terms.place at flow answer.value is)
-turns terms n (busy at flow (response_head side how)) seen ask answer is asks = stays n _ ask (asked_not _ ask asks (leaves_not _ _ _ (answer_not flow (answers_in flow.request seen).final seen.now (server_in side seen) seen.closed))) (answer_leads n at flow side (answers_in flow.request seen).final seen answer is)
-turns terms n (busy at flow (response_body side how)) seen ask answer is asks = stays n _ ask (asked_not _ ask asks (leaves_not _ _ _ (returned_not flow _ _ _ _))) (returned_leads n at flow side (answers_in flow.request seen).final seen answer is)
+turns terms n (busy at flow (response_head side how)) seen ask answer is asks = stays n _ ask (asked_not _ ask asks (leaves_not _ _ _ (answer_not flow (answers_in flow.request seen).final seen.now (server_in side seen) seen.closed))) (answer_leads terms n at flow side (answers_in flow.request seen).final seen answer is)
+turns terms n (busy at flow (coming_down side how)) seen ask answer is asks = tt
+turns terms n (busy at flow (response_body side how most)) seen ask answer is asks = stays n _ ask (asked_not _ ask asks (leaves_not _ _ _ (returned_not flow _ _ _ _))) (returned_leads n at flow side (answers_in flow.request seen).final seen answer is)
 turns terms n (busy at flow (upgraded side)) seen ask answer is asks = tt
 turns terms n (busy at flow given_head) seen ask answer is asks =
     stays n _ ask (asked_not (look terms (busy at flow given_head) seen) ask asks refl) (response_leads n flow.response _ _
@@ -291,7 +316,11 @@ DialledAt n place = Dialled n place.stage
 
 pub counts : (terms : Terms) → CountsDials (http_chain sequence terms) DialledAt
 counts terms = record {
-  pass = λ n place prefix is. (refl, passed n place.stage (sight_over place prefix) is);
+  pass = λ n place prefix is.
+      let seen : Sight = sight_over place prefix in (
+        quiet_dials any_flow (pass place.stage seen).owed (pass_quiet terms any_flow place.stage seen (is_any terms place.stage)),
+        onward n (pass place.stage seen).stage (passed n place.stage seen is),
+      );
   so_far = λ place prefix. quiet_dials any_flow (so_far place.stage (sight_over place prefix)) (so_far_quiet any_flow place.stage (sight_over place prefix));
   behind = λ place prefix. quiet_dials any_flow (behind_ask place.stage (sight_over place prefix)) (behind_quiet any_flow place.stage (sight_over place prefix));
   look = λ n place prefix is. looks terms n place.stage (sight_over place prefix) is;

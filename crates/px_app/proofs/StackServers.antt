@@ -20,7 +20,7 @@ use Rattle.px_exchange.specs.declared.ending.Used.{Used}
 use Rattle.px_exchange.specs.declared.ending.Used.TheVariants.{NoServer, ByServer}
 use Rattle.px_chain.specs.Chain.{Connect, connect_in, look as look_of}
 use Rattle.px_chain.specs.Sights.{Sight, Standing, request_in, sight_over}
-use Rattle.px_chain.specs.Stages.{At, busy, connection, given_body, given_head, idle, next, request_body, response_body, response_head, upgraded}
+use Rattle.px_chain.specs.Stages.{At, busy, coming_down, connection, given_body, given_head, idle, next, request_body, response_body, response_head, upgraded}
 use Rattle.px_chain.specs.Stages as flows
 use Rattle.px_chain.specs.Streams.{Since, client_closed, from_here, now_over}
 use Rattle.px_tunnel.specs.Upstream.{Granting, awaited, granted, refused}
@@ -114,7 +114,8 @@ module _ (conv : ℕ) (client : Visitor) where
   hands_dialled n place standing (busy at flow (request_body given)) seen is here = is
   hands_dialled n place standing (busy at flow connection) seen is here = is
   hands_dialled n place standing (busy at flow (response_head side how)) seen is here = is
-  hands_dialled n place standing (busy at flow (response_body side how)) seen is here = is
+  hands_dialled n place standing (busy at flow (response_body side how most)) seen is here = is
+  hands_dialled n place standing (busy at flow (coming_down side how)) seen is here = is
   hands_dialled n place standing (busy at flow (upgraded side)) seen is here = upgrades_dialled n (is_websocket flow seen.closed) flow seen.now _
   hands_dialled n place standing (busy at flow given_head) seen is here = is
   hands_dialled n place standing (busy at flow given_body) seen is here = is
@@ -259,7 +260,8 @@ module _ (conv : ℕ) (client : Visitor) where
   led_is_by n place standing prefix (busy at flow (request_body given)) is here = tt
   led_is_by n place standing prefix (busy at flow connection) is here = (here, ap (λ s. look_of (terms_of conv client.address place) s (sight_over standing prefix)) is)
   led_is_by n place standing prefix (busy at flow (response_head side how)) is here = tt
-  led_is_by n place standing prefix (busy at flow (response_body side how)) is here = tt
+  led_is_by n place standing prefix (busy at flow (response_body side how most)) is here = tt
+  led_is_by n place standing prefix (busy at flow (coming_down side how)) is here = tt
   led_is_by n place standing prefix (busy at flow (upgraded side)) is here = tt
   led_is_by n place standing prefix (busy at flow given_head) is here = tt
   led_is_by n place standing prefix (busy at flow given_body) is here = tt

@@ -54,6 +54,7 @@ generator_settings = record {
   server_replay_use_headers = lines.server_replay_use_headers.default;
   stickyauth = lines.stickyauth.default;
   stickycookie = lines.stickycookie.default;
+  stream_large_bodies = lines.stream_large_bodies.default;
 }
 
 -- no change appended anything, so each left all as it was

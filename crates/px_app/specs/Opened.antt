@@ -61,7 +61,7 @@ pub record AreRulesOf (settings : Settings) (rules : Rules) : Type 0 where
   pub refresh : rules.refresh ≡ settings.server_replay_refresh
   pub cookies : rules.cookies ≡ None
   pub auth : rules.auth ≡ None
-  pub stream : rules.stream ≡ None
+  pub stream : rules.stream ≡ settings.stream_large_bodies
 
 -- what counts of a request where a recorded one is looked for
 abbrev pub what_counts : Settings → KeyOptions

@@ -68,6 +68,7 @@ pub(crate) fn setup_of(alloc: Global, options: Options, flows: Vec<Flow>) -> Res
         server_replay_use_headers,
         stickyauth,
         stickycookie,
+        stream_large_bodies,
     } = options;
     drop(client_replay);
     let how = KeyOptions {
@@ -98,7 +99,7 @@ pub(crate) fn setup_of(alloc: Global, options: Options, flows: Vec<Flow>) -> Res
         cookies: cookies_by(alloc, stickycookie),
         auth: auth_by(alloc, stickyauth),
         intercept,
-        stream: None,
+        stream: stream_large_bodies,
     };
     let saving = saving_of(save_stream_file, save_stream_filter);
     Ok(Setup {

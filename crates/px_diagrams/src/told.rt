@@ -113,8 +113,12 @@ fn show_size(out: &mut Shown, response: &Option<Shared<Response>>) {
 fn show_size_of(out: &mut Shown, response: &Response) {
     out.text(" ");
     out.number(u64::from(response.status.code()));
-    out.text(" ");
-    out.number(response.body.bytes().len() as u64);
+    if response.streamed {
+        out.text(" streamed");
+    } else {
+        out.text(" ");
+        out.number(response.body.bytes().len() as u64);
+    }
 }
 
 fn show_error(out: &mut Shown, flow: &Flow) {

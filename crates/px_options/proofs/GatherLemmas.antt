@@ -47,6 +47,7 @@ settings_from s table = record {
   server_replay_use_headers = value_or lines.server_replay_use_headers s.server_replay_use_headers (get_member (name_of key.ServerReplayUseHeaders) table);
   stickyauth = value_or lines.stickyauth s.stickyauth (get_member (name_of key.Stickyauth) table);
   stickycookie = value_or lines.stickycookie s.stickycookie (get_member (name_of key.Stickycookie) table);
+  stream_large_bodies = value_or lines.stream_large_bodies s.stream_large_bodies (get_member (name_of key.StreamLargeBodies) table);
 }
 
 -- what is gathered from these members is what they say
@@ -75,12 +76,13 @@ or_named false k found name others same e next = next e
 nothing : {A : Type 0} (a : A) → ¬ (None ≡ Some a)
 nothing a e = absurd (cc)
 
--- a key that keeps something has its name
+-- a key from `stickyauth` on has its name
 named_sticky : (name : List ℕ) (found : Key) → sticky_key_of name ≡ Some found → name ≡ name_of found
 named_sticky name found is =
     or_named (bytes_eq name (name_of key.Stickyauth)) key.Stickyauth found name _ (λ same. (bytes_eq-Decides _ _).0 same) is (λ e.
     or_named (bytes_eq name (name_of key.Stickycookie)) key.Stickycookie found name _ (λ same. (bytes_eq-Decides _ _).0 same) e (λ e.
-    absurd (nothing found e)))
+    or_named (bytes_eq name (name_of key.StreamLargeBodies)) key.StreamLargeBodies found name _ (λ same. (bytes_eq-Decides _ _).0 same) e (λ e.
+    absurd (nothing found e))))
 
 -- a key from `server_replay` on has its name
 named_replay : (name : List ℕ) (found : Key) → replay_key_of name ≡ Some found → name ≡ name_of found
@@ -207,6 +209,9 @@ by_key (Some key.Stickyauth) name d ms s is ih =
 by_key (Some key.Stickycookie) name d ms s is ih =
     subst (More (Some key.Stickycookie) ms d s) (sym (named name key.Stickycookie is)) (λ none.
     line_gathered lines.stickycookie (λ a s. record s { stickycookie = a }) s.stickycookie (name_of key.Stickycookie) d ms s (lines.stickycookie.reads d) refl none ih (λ a. refl) refl)
+by_key (Some key.StreamLargeBodies) name d ms s is ih =
+    subst (More (Some key.StreamLargeBodies) ms d s) (sym (named name key.StreamLargeBodies is)) (λ none.
+    line_gathered lines.stream_large_bodies (λ a s. record s { stream_large_bodies = a }) s.stream_large_bodies (name_of key.StreamLargeBodies) d ms s (lines.stream_large_bodies.reads d) refl none ih (λ a. refl) refl)
 
 -- a key that is below others is none of them
 no_key : (k : String Global) (es : List Entry) → AllByRecursion (λ y. string_cmp k y ≡ Less) (keys_of es) → get_member (string_bytes k) (members_view es) ≡ None

@@ -16,7 +16,7 @@ use Rattle.px_options.specs.Options.{IsNoTable, Says, Settings, first_refusal, o
 use Rattle.px_options.specs.Replay.{extra_in, paths_in}
 use Rattle.px_options.specs.Rules.{rule_and, rules_from, rules_of, texts_of, with_rule}
 use Rattle.px_options.specs.Save.{filter_in, or_bad_filter, path_in, path_of}
-use Rattle.px_options.specs.Values.{Place, address, address_in, from_one, or_wrong, some_place}
+use Rattle.px_options.specs.Values.{Place, address, address_in, from_one, from_zero, or_wrong, some_number, some_place}
 use Rattle.px_options.specs.declared.error.OptionsError.{OptionsError}
 use Rattle.px_options.specs.declared.error.OptionsError.TheVariants as error
 use Rattle.px_options.specs.declared.key.Key.{Key}
@@ -179,6 +179,7 @@ at_of_table key.ServerReplayReuse d = why_of_table (lines.server_replay_reuse.re
 at_of_table key.ServerReplayUseHeaders d = why_of_table (lines.server_replay_use_headers.reads d) (wrong_of_table key.ServerReplayUseHeaders (texts_of (as_array d)))
 at_of_table key.Stickyauth d = why_of_table (lines.stickyauth.reads d) (filter_in_of_table key.Stickyauth (as_str d))
 at_of_table key.Stickycookie d = why_of_table (lines.stickycookie.reads d) (filter_in_of_table key.Stickycookie (as_str d))
+at_of_table key.StreamLargeBodies d = why_of_table (lines.stream_large_bodies.reads d) (wrong_of_table key.StreamLargeBodies (some_number (from_zero (as_integer d))))
 
 key_of_table : (k : Option Key) (name : List ℕ) (d : Data) → IfSome (refusal_of_key k name d) OfTable
 key_of_table None name d = refl

@@ -30,17 +30,19 @@ name_of key.ServerReplayReuse = codes "server_replay_reuse"
 name_of key.ServerReplayUseHeaders = codes "server_replay_use_headers"
 name_of key.Stickyauth = codes "stickyauth"
 name_of key.Stickycookie = codes "stickycookie"
+name_of key.StreamLargeBodies = codes "stream_large_bodies"
 
 -- the key, if it has that name, else what others say
 abbrev pub or_key : Key → List ℕ → Option Key → Option Key
 or_key key name others = if bytes_eq name (name_of key) then Some key else others
 
--- the key of that name, of those that keep something for later requests
+-- the key of that name, of those from `stickyauth` on
 abbrev pub sticky_key_of : List ℕ → Option Key
 sticky_key_of name =
     or_key key.Stickyauth name
     (or_key key.Stickycookie name
-    None)
+    (or_key key.StreamLargeBodies name
+    None))
 
 -- the key of that name, of those from `server_replay` on
 abbrev pub replay_key_of : List ℕ → Option Key

@@ -10,7 +10,7 @@ use Rattle.px_options.specs.Mode.{ModeIs, regular, mode as mode_text}
 use Rattle.px_options.specs.Replay.{extra, file_paths, texts}
 use Rattle.px_options.specs.Rules.{rules}
 use Rattle.px_options.specs.Save.{file_path, flow_filter}
-use Rattle.px_options.specs.Values.{Place, address, count, some_address, truth}
+use Rattle.px_options.specs.Values.{Place, address, count, size, some_address, truth}
 use Rattle.px_options.specs.declared.error.OptionsError.{OptionsError}
 use Rattle.px_options.specs.declared.key.Key.{Key}
 use Rattle.px_options.specs.declared.key.Key.TheVariants as key
@@ -113,3 +113,7 @@ stickyauth = line key.Stickyauth flow_filter None
 -- without its key no cookie is kept
 abbrev pub stickycookie : Line (Option Expression)
 stickycookie = line key.Stickycookie flow_filter None
+
+-- without its key no body is streamed
+abbrev pub stream_large_bodies : Line (Option ℕ)
+stream_large_bodies = line key.StreamLargeBodies size None

@@ -45,6 +45,7 @@ pub record Settings : Type 0 where
   pub server_replay_use_headers : List (List ℕ)
   pub stickyauth : Option Expression
   pub stickycookie : Option Expression
+  pub stream_large_bodies : Option ℕ
 
 -- every option is its default
 abbrev pub defaults : Settings
@@ -75,6 +76,7 @@ defaults = record {
   server_replay_use_headers = lines.server_replay_use_headers.default;
   stickyauth = lines.stickyauth.default;
   stickycookie = lines.stickycookie.default;
+  stream_large_bodies = lines.stream_large_bodies.default;
 }
 
 -- why a line refuses a value
@@ -109,6 +111,7 @@ refusal_at key.ServerReplayReuse d = why (lines.server_replay_reuse.reads d)
 refusal_at key.ServerReplayUseHeaders d = why (lines.server_replay_use_headers.reads d)
 refusal_at key.Stickyauth d = why (lines.stickyauth.reads d)
 refusal_at key.Stickycookie d = why (lines.stickycookie.reads d)
+refusal_at key.StreamLargeBodies d = why (lines.stream_large_bodies.reads d)
 
 abbrev pub refusal_of_key : Option Key → List ℕ → Data → Option OptionsError
 refusal_of_key None name d = Some (error.UnknownOption name)
@@ -169,6 +172,7 @@ settings_of table = record {
   server_replay_use_headers = option_at lines.server_replay_use_headers table;
   stickyauth = option_at lines.stickyauth table;
   stickycookie = option_at lines.stickycookie table;
+  stream_large_bodies = option_at lines.stream_large_bodies table;
 }
 
 abbrev pub options_by : Option OptionsError → Settings → Result Settings OptionsError

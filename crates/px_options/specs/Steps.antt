@@ -41,6 +41,7 @@ put key.ServerReplayReuse d s = put_by (λ a. record s { server_replay_reuse = a
 put key.ServerReplayUseHeaders d s = put_by (λ a. record s { server_replay_use_headers = a }) (lines.server_replay_use_headers.reads d)
 put key.Stickyauth d s = put_by (λ a. record s { stickyauth = a }) (lines.stickyauth.reads d)
 put key.Stickycookie d s = put_by (λ a. record s { stickycookie = a }) (lines.stickycookie.reads d)
+put key.StreamLargeBodies d s = put_by (λ a. record s { stream_large_bodies = a }) (lines.stream_large_bodies.reads d)
 
 abbrev pub put_at : Option Key → List ℕ → Data → Settings → Result Settings OptionsError
 put_at None name d s = Err (error.UnknownOption name)

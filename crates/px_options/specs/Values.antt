@@ -32,6 +32,19 @@ from_one _ = None
 abbrev pub count : Key → Data → Result ℕ OptionsError
 count key d = or_wrong key (from_one (as_integer d))
 
+-- the number, if it is 0 or more
+abbrev pub from_zero : Option ℤ → Option ℕ
+from_zero (Some (pos n)) = Some n
+from_zero _ = None
+
+abbrev pub some_number : Option ℕ → Option (Option ℕ)
+some_number None = None
+some_number (Some n) = Some (Some n)
+
+-- a whole number from 0, where the option may be none
+abbrev pub size : Key → Data → Result (Option ℕ) OptionsError
+size key d = or_wrong key (some_number (from_zero (as_integer d)))
+
 abbrev pub address_in : Option (List ℕ) → Option Place
 address_in None = None
 address_in (Some text) = authority_form text

@@ -55,4 +55,5 @@ settings o = record {
   server_replay_use_headers = o.server_replay_use_headers;
   stickyauth = option_map expression o.stickyauth;
   stickycookie = option_map expression o.stickycookie;
+  stream_large_bodies = o.stream_large_bodies;
 }

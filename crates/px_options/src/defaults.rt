@@ -45,5 +45,6 @@ pub(crate) fn defaults(alloc: Global) -> Result<Options, OptionsError>
         server_replay_use_headers: Names::new(Vec::new(alloc)),
         stickyauth: None,
         stickycookie: None,
+        stream_large_bodies: None,
     })
 }

@@ -31,6 +31,7 @@ pub(crate) enum Key {
     ServerReplayUseHeaders,
     Stickyauth,
     Stickycookie,
+    StreamLargeBodies,
 }
 
 /// The key's name in a file.
@@ -64,6 +65,7 @@ pub(crate) fn name_of(key: Key) -> &'static [u8]
         Key::ServerReplayUseHeaders => b"server_replay_use_headers",
         Key::Stickyauth => b"stickyauth",
         Key::Stickycookie => b"stickycookie",
+        Key::StreamLargeBodies => b"stream_large_bodies",
     }
 }
 
@@ -160,7 +162,7 @@ fn replay_key_of(name: &[u8]) -> Option<Key>
     sticky_key_of(name)
 }
 
-// The key of that name, of those that keep something for later requests.
+// The key of that name, of those from `stickyauth` on.
 fn sticky_key_of(name: &[u8]) -> Option<Key>
     ensures { result ≡ sticky_key_of name.now }
 {
@@ -169,6 +171,9 @@ fn sticky_key_of(name: &[u8]) -> Option<Key>
     }
     if name == b"stickycookie".as_slice() {
         return Some(Key::Stickycookie);
+    }
+    if name == b"stream_large_bodies".as_slice() {
+        return Some(Key::StreamLargeBodies);
     }
     None
 }

@@ -72,6 +72,9 @@ pub struct Options {
     pub stickyauth: Option<Filter>,
     /// Which requests are given the kept cookies that are for them; none says that nothing is kept (mitmproxy's option `stickycookie`).
     pub stickycookie: Option<Filter>,
+    /// Above how many bytes a body is sent on as it comes, and not kept; none says that each is kept (mitmproxy's option
+    /// `stream_large_bodies`, a text as `3m` there).
+    pub stream_large_bodies: Option<u64>,
 }
 
 /// The options that the bytes of a file are: one TOML table, an option a key. A key that is not there has its default, so no bytes at

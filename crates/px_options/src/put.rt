@@ -7,7 +7,7 @@ ghost use Rattle.px_options.specs.declared.error.OptionsError.TheVariants as err
 ghost use Rattle.px_options.specs.declared.key.Key.TheVariants as keys;
 
 use crate::address::{read_address, read_some_address};
-use crate::count::read_count;
+use crate::count::{read_count, read_size};
 use crate::error::unknown_option;
 use crate::extra::read_extra;
 use crate::flow_filter::read_filter;
@@ -68,6 +68,7 @@ fn put(alloc: Global, options: &mut Options, key: Key, value: &Value) -> Result<
         Key::ServerReplayUseHeaders => put_server_replay_use_headers(alloc, options, value),
         Key::Stickyauth => put_stickyauth(alloc, options, value),
         Key::Stickycookie => put_stickycookie(alloc, options, value),
+        Key::StreamLargeBodies => put_stream_large_bodies(alloc, options, value),
     }
 }
 
@@ -332,5 +333,17 @@ fn put_stickycookie(alloc: Global, options: &mut Options, value: &Value) -> Resu
     ensures err { IfErr result (λ e. (e ≡ error.NoMemory) ⊎ (put keys.Stickycookie (view value.now) (settings options.old) ≡ Err e)) }
 {
     options.stickycookie = Some(read_filter(alloc, Key::Stickycookie, value)?);
+    Ok(())
+}
+
+fn put_stream_large_bodies(
+    alloc: Global,
+    options: &mut Options,
+    value: &Value,
+) -> Result<(), OptionsError>
+    ensures ok { OnOk result (put keys.StreamLargeBodies (view value.now) (settings options.old) ≡ Ok (settings options.new)) }
+    ensures err { IfErr result (λ e. (e ≡ error.NoMemory) ⊎ (put keys.StreamLargeBodies (view value.now) (settings options.old) ≡ Err e)) }
+{
+    options.stream_large_bodies = Some(read_size(alloc, Key::StreamLargeBodies, value)?);
     Ok(())
 }

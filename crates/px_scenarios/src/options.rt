@@ -60,6 +60,10 @@ fn show_kept(out: &mut Shown, options: &Options) {
     show_if(out, refreshes, "; server_replay_refresh");
     show_if(out, options.stickyauth.is_some(), "; stickyauth");
     show_if(out, options.stickycookie.is_some(), "; stickycookie");
+    if let Some(size) = options.stream_large_bodies {
+        out.text("; stream_large_bodies ");
+        out.number(size);
+    }
 }
 
 fn show_if(out: &mut Shown, holds: bool, text: &str) {

@@ -11,6 +11,6 @@ returns g c hook flow rules new_rules files new_files new answer none keeps give
   (stays_quiet _ _ _ hook flow rules _ files new_rules new new_files answer (record { no_rules = none; quiet = record { unrecorded = refl; no_cookies = refl; no_auth = refl; keep = (keeps, tt) } }) given).quiet.unrecorded,
   (stays_quiet _ _ _ hook flow rules _ files new_rules new new_files answer (record { no_rules = none; quiet = record { unrecorded = refl; no_cookies = refl; no_auth = refl; keep = (keeps, tt) } }) given).quiet.no_cookies,
   (stays_quiet _ _ _ hook flow rules _ files new_rules new new_files answer (record { no_rules = none; quiet = record { unrecorded = refl; no_cookies = refl; no_auth = refl; keep = (keeps, tt) } }) given).quiet.no_auth,
-  parts_same _ _ _ rules hook (parts hook) _ given.end _ new files new_files given.moved,
+  parts_same _ _ _ rules hook (parts hook) _ given.left _ new files new_files given.moved,
   answers_leave _ _ _ hook flow rules _ files new_rules new new_files answer none.local given,
 )

@@ -8,7 +8,7 @@ use Rattle.px_addons.proofs.laws.map_local_reads_only_what_rules_name.Goals as g
 
 pub returns-clause-given : goal.returns-clause-given
 returns-clause-given g c hook flow rules new_rules files new_files old new answer given =
-    parts_read _ _ _ rules hook (parts hook) _ given.end old new files new_files given.moved
+    parts_read _ _ _ rules hook (parts hook) _ given.left old new files new_files given.moved
 
 pub returns-clause-failed : goal.returns-clause-failed
 returns-clause-failed g c hook flow rules files new_files old failed = failed_reads _ _ _ hook flow rules old files new_files failed
