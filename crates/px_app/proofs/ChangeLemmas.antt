@@ -16,7 +16,7 @@ use Rattle.px_addons.specs.Moving.{Moves}
 use Rattle.px_addons.specs.Quiet.{AllKeepDrafts, ChangesNothing, NoRules}
 use Rattle.px_addons.specs.declared.rules.Rules.{Rules}
 use Rattle.px_obey.specs.declared.outcome.Outcome.{Outcome}
-use Rattle.px_obey.specs.Obeyed.{BreaksLine, BreaksLines, Obeys, ObeysAll, ObeysLine, ObeysLines, Point, all_obeyed, by_order, ended_at, in_operation, lists, no_order, none_obeyed, none_told, not_answered, not_closed, one_obeyed, operates, quits, refuses, shows, shows_none, too_long}
+use Rattle.px_obey.specs.Obeyed.{BreaksLine, BreaksLines, Obeys, ObeysAll, ObeysLine, ObeysLines, Point, all_obeyed, by_order, ended_at, gives, gives_none, in_operation, lists, no_order, none_obeyed, none_told, not_answered, not_closed, one_obeyed, operates, quits, refuses, shows, shows_none, too_long}
 use Rattle.px_view.specs.declared.command.Order.{Order}
 use Rattle.px_view.specs.declared.desk.Line.{Line}
 use Rattle.px_app.specs.Worked.{Breaks, Turns, Worked, WorkedPart, all_worked, breaks_in, breaks_begun, in_conversation, in_lines, in_silence, not_begun, of_conversation, of_leaving, of_operator, one_begun, one_worked}
@@ -36,8 +36,8 @@ next_are {S} Is changes next last grown all here =
     let P : List (Change S) → Type 0 = AllAre Is in subst P (sym grown) (are_more Is changes last all here)
 
 all_by : {S : Type 0} (Is Other : Change S → Type 0) → ((one : Change S) → Is one → Other one) → (changes : List (Change S)) → AllAre Is changes → AllAre Other changes
-all_by Is Other gives [] all = tt
-all_by Is Other gives (one ∷ changes) (here, all) = (gives one here, all_by Is Other gives changes all)
+all_by Is Other turns [] all = tt
+all_by Is Other turns (one ∷ changes) (here, all) = (turns one here, all_by Is Other turns changes all)
 
 module _ {S : Type 0} (drops : List ℕ → S → S → Type 0) where
   -- all changes of the course are so
@@ -66,6 +66,8 @@ module _ {S : Type 0} (answers : Answering S) (drops : List ℕ → S → S → 
   order_so one at next caused given (lists here list live) all = all
   order_so one at next caused given (shows here id flow live last) all = all
   order_so one at next caused given (shows_none here id none) all = all
+  order_so one at next caused given (gives here id from flow live last) all = all
+  order_so one at next caused given (gives_none here id from none) all = all
   order_so one at next caused given (operates here there operation more fits of_it moves traced coursed) all =
       let P : Course S → Type 0 = AreSavesOrDrops drops in
       subst P (sym coursed) (operated_so operation at.course at.trace at.now next.now moves all)

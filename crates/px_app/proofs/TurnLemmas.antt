@@ -252,6 +252,8 @@ module _ {S : Type 0} (answers : Answering S) (drops : List ℕ → S → S → 
   order_leads one at next caused given (obeyed.lists here list live) = leads_none here
   order_leads one at next caused given (obeyed.shows here id flow live asked) = leads_none here
   order_leads one at next caused given (obeyed.shows_none here id over) = leads_none here
+  order_leads one at next caused given (obeyed.gives here id from flow live asked) = leads_none here
+  order_leads one at next caused given (obeyed.gives_none here id from over) = leads_none here
   order_leads one at next caused given (obeyed.operates here there operation list none own moves is grown) =
       leads_own here list there.trace there.course is (none_any (caused_in operation) list own) (grows_operated drops answers operation here.course there.course here.trace here.now there.now moves grown)
   order_leads one at next caused given (obeyed.refuses here operation error refused) = leads_none here

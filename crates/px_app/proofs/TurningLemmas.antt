@@ -69,6 +69,7 @@ module _ {S : Type 0} (answers : Answering S) (drops : List ℕ → S → S → 
   not_left : (one : Order) → outcome_of one ≢ Leaves
   not_left order.List = λ (e : GoesOn ≡ Leaves). cc
   not_left (order.Show id) = λ (e : GoesOn ≡ Leaves). cc
+  not_left (order.Entry id from) = λ (e : GoesOn ≡ Leaves). cc
   not_left (order.Act operation) = λ (e : GoesOn ≡ Leaves). cc
   not_left order.Quit = λ (e : Quits ≡ Leaves). cc
 

@@ -26,9 +26,11 @@ use Rattle.px_view.specs.declared.desk.Line.{Line}
 use Rattle.px_view.specs.declared.desk.Line.TheVariants as line
 use Rattle.px_view.specs.Answers.{answer_text}
 use Rattle.px_view.specs.Commands.{order_of}
+use Rattle.px_view.specs.Entry.{entry_line}
+use Rattle.px_view.specs.Show.{show_text}
 use Rattle.px_obey.specs.declared.outcome.Outcome.{Outcome}
 use Rattle.px_obey.specs.declared.outcome.Outcome.TheVariants.{GoesOn, Leaves}
-use Rattle.px_obey.specs.Obeyed.{BreaksLine, Obeys, ObeysLine, Point, StandsAt, by_no_order, by_operation, by_order, in_operation, lists, no_order, none_told, not_answered, not_closed, operates, outcome_of, point, quits, refuses, refused_text, sent, shows, shows_none, too_long, wrong_text}
+use Rattle.px_obey.specs.Obeyed.{BreaksLine, Obeys, ObeysLine, Point, StandsAt, by_no_order, by_operation, by_order, gives, gives_none, in_operation, lists, no_order, none_told, not_answered, not_closed, operates, outcome_of, point, quits, refuses, refused_text, sent, shows, shows_none, too_long, wrong_text}
 use Rattle.px_obey.specs.Over.{AnswersOrder, BreaksOrder, BreaksOver, Doing, GoesOver, IsListOf, IsShownOf, Rests, StandingFor, TakesAll, TellsMore, TellsSome, in_steps, is_not_live, is_shown, long_steps, not_begun, not_said}
 use Rattle.px_obey.proofs.ObeyLemmas.{after_none, breaks_behind, breaks_map, breaks_none, goes_kept, goes_map, goes_none, goes_said, now_on}
 
@@ -177,14 +179,23 @@ module _ {S : Type 0} {answers : Answering S} {drops : List ℕ → S → S → 
       GoesOver answers drops (λ due first more last. Obeys answers drops names due order.List first more text last) At At moment old old net net taken taken
   goes_listed {old = old} text all = goes_none (λ due course trace stands. list_obeyed due (point trace course old) text (all due course trace stands))
 
-  flow_obeyed : (due : Due) (at : Point S) (id : FlowId) (text : List ℕ) → IsShownOf answers due at.course at.trace id text → Obeys answers drops names due (order.Show id) at [] text at
+  flow_obeyed : (due : Due) (at : Point S) (id : FlowId) (text : List ℕ) → IsShownOf answers due at.course at.trace show_text id text → Obeys answers drops names due (order.Show id) at [] text at
   flow_obeyed due at id text (is_shown flow live last is) = let P : List ℕ → Type 0 = λ t. Obeys answers drops names due (order.Show id) at [] t at in subst P (sym is) (shows at id flow live last)
   flow_obeyed due at id text (is_not_live none is) = let P : List ℕ → Type 0 = λ t. Obeys answers drops names due (order.Show id) at [] t at in subst P (sym is) (shows_none at id none)
 
   pub goes_shown : {At : StandingFor S} {moment : ℕ} {old : AnswererState S} {net : Option Trace} {taken : List Flow} (id : FlowId) (text : List ℕ) →
-      ((due : Due) (course : Course S) (trace : Trace) → At due course trace → IsShownOf answers due course trace id text) →
+      ((due : Due) (course : Course S) (trace : Trace) → At due course trace → IsShownOf answers due course trace show_text id text) →
       GoesOver answers drops (λ due first more last. Obeys answers drops names due (order.Show id) first more text last) At At moment old old net net taken taken
   goes_shown {old = old} id text all = goes_none (λ due course trace stands. flow_obeyed due (point trace course old) id text (all due course trace stands))
+
+  part_obeyed : (due : Due) (at : Point S) (id : FlowId) (from : ℕ) (text : List ℕ) → IsShownOf answers due at.course at.trace (entry_line from) id text → Obeys answers drops names due (order.Entry id from) at [] text at
+  part_obeyed due at id from text (is_shown flow live last is) = let P : List ℕ → Type 0 = λ t. Obeys answers drops names due (order.Entry id from) at [] t at in subst P (sym is) (gives at id from flow live last)
+  part_obeyed due at id from text (is_not_live none is) = let P : List ℕ → Type 0 = λ t. Obeys answers drops names due (order.Entry id from) at [] t at in subst P (sym is) (gives_none at id from none)
+
+  pub goes_given : {At : StandingFor S} {moment : ℕ} {old : AnswererState S} {net : Option Trace} {taken : List Flow} (id : FlowId) (from : ℕ) (text : List ℕ) →
+      ((due : Due) (course : Course S) (trace : Trace) → At due course trace → IsShownOf answers due course trace (entry_line from) id text) →
+      GoesOver answers drops (λ due first more last. Obeys answers drops names due (order.Entry id from) first more text last) At At moment old old net net taken taken
+  goes_given {old = old} id from text all = goes_none (λ due course trace stands. part_obeyed due (point trace course old) id from text (all due course trace stands))
 
   -- the order is this one
   pub goes_as : {Before After : StandingFor S} {moment : ℕ} {old new : AnswererState S} {net after : Option Trace} {taken new_taken : List Flow} (one given : Order) (text : List ℕ) → one ≡ given →

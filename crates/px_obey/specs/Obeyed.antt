@@ -30,6 +30,7 @@ use Rattle.px_view.specs.declared.desk.Line.{Line}
 use Rattle.px_view.specs.declared.desk.Line.TheVariants as line
 use Rattle.px_view.specs.Answers.{answer_text}
 use Rattle.px_view.specs.Commands.{order_of}
+use Rattle.px_view.specs.Entry.{entry_line}
 use Rattle.px_view.specs.Show.{show_text}
 use Rattle.px_obey.specs.declared.outcome.Outcome.{Outcome}
 use Rattle.px_obey.specs.declared.outcome.Outcome.TheVariants.{GoesOn, Leaves, Quits}
@@ -87,6 +88,8 @@ module _ {S : Type 0} (answers : Answering S) (drops : List ℕ → S → S → 
     lists : (at : Point S) (list : List (FlowId × Option Hook)) → AreLive at.trace list → Obeys order.List at [] (list_text list) at
     shows : (at : Point S) (id : FlowId) (flow : Flow) → is_live id at.trace ≡ true → IsLastAsked answers due at.course at.trace id flow → Obeys (order.Show id) at [] (show_text flow) at
     shows_none : (at : Point S) (id : FlowId) → is_live id at.trace ≡ false → Obeys (order.Show id) at [] (answer_text answer.NoSuchFlow) at
+    gives : (at : Point S) (id : FlowId) (from : ℕ) (flow : Flow) → is_live id at.trace ≡ true → IsLastAsked answers due at.course at.trace id flow → Obeys (order.Entry id from) at [] (entry_line from flow) at
+    gives_none : (at : Point S) (id : FlowId) (from : ℕ) → is_live id at.trace ≡ false → Obeys (order.Entry id from) at [] (answer_text answer.NoSuchFlow) at
     operates : (at next : Point S) (operation : Operation) (caused : List Step) → refusal operation (names at.now.own) at.trace ≡ None → AllOfAny (caused_in operation) caused →
         MovesBy answers drops operation at.now next.now → next.trace ≡ at.trace ++ caused → next.course ≡ operated_on at.course at.trace operation at.now next.now →
         Obeys (order.Act operation) at caused (answer_text answer.Done) next

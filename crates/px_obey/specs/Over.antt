@@ -21,7 +21,6 @@ use Rattle.px_view.specs.declared.command.Order.{Order}
 use Rattle.px_view.specs.declared.desk.Line.{Line}
 use Rattle.px_view.specs.declared.command.Order.TheVariants as order
 use Rattle.px_view.specs.Answers.{answer_text}
-use Rattle.px_view.specs.Show.{show_text}
 use Rattle.px_obey.specs.declared.outcome.Outcome.{Outcome}
 use Rattle.px_obey.specs.Obeyed.{BreaksLines, ByOrders, FilesAfterOrders, Obeys, ObeysLines, Point, closed, list_text, outcome_of, point, sent}
 
@@ -97,10 +96,10 @@ pub record IsListOf (trace : Trace) (text : List ℕ) : Type 0 where
   pub live : AreLive trace list
   pub is : text ≡ list_text list
 
--- this is what is shown of the flow
-pub data IsShownOf {S : Type 0} (answers : Answering S) (due : Due) (course : Course S) (trace : Trace) (id : FlowId) (text : List ℕ) : Type 0 where
-  is_shown : (flow : Flow) → is_live id trace ≡ true → IsLastAsked answers due course trace id flow → text ≡ show_text flow → IsShownOf answers due course trace id text
-  is_not_live : is_live id trace ≡ false → text ≡ answer_text answer.NoSuchFlow → IsShownOf answers due course trace id text
+-- this is what is told of the flow, as it was asked about last
+pub data IsShownOf {S : Type 0} (answers : Answering S) (due : Due) (course : Course S) (trace : Trace) (telling : Flow → List ℕ) (id : FlowId) (text : List ℕ) : Type 0 where
+  is_shown : (flow : Flow) → is_live id trace ≡ true → IsLastAsked answers due course trace id flow → text ≡ telling flow → IsShownOf answers due course trace telling id text
+  is_not_live : is_live id trace ≡ false → text ≡ answer_text answer.NoSuchFlow → IsShownOf answers due course trace telling id text
 
 -- An order was obeyed and answered.
 pub record AnswersOrder {S : Type 0} (answers : Answering S) (drops : List ℕ → S → S → Type 0) (names : S → List (List ℕ)) (due : Due) (conv : ℕ) (one : Order) (first : Point S) (more : List Step) (last : Point S)

@@ -8,10 +8,12 @@ ghost use Rattle.px_core.specs.Due.{Due};
 ghost use Rattle.px_core.specs.Router.{RouterStands};
 ghost use Rattle.px_view.specs.declared.command.Order.TheVariants.{Act as DoesThis};
 ghost use Rattle.px_view.specs.Answers.{answer_text};
+ghost use Rattle.px_view.specs.Entry.{entry_line};
+ghost use Rattle.px_view.specs.Show.{show_text};
 ghost use Rattle.px_obey.specs.Obeyed.{Obeys, StandsAt};
 ghost use Rattle.px_obey.specs.Over.{BreaksOrder, BreaksOver, GoesOver, IsListOf, IsShownOf};
 
-use crate::text::{flow_text, line_of, list_text};
+use crate::text::{flow_text, line_of, list_text, part_text};
 use px_core::{Answerer, OperateError, Operation, Owes, Router, Taker, operate_over};
 use px_message::FlowId;
 use px_outside::{Files, Net};
@@ -38,6 +40,7 @@ pub(crate) fn obey_order<C: Owes, A: Answerer, F: Files, N: Net, T: Taker>(
     match order {
         Order::List => list_order(alloc, router),
         Order::Show(id) => show_order(alloc, router, *id),
+        Order::Entry(id, from) => entry_order(alloc, router, *id, *from),
         Order::Act(operation) => act_order(alloc, router, files, net, taker, moment, operation),
         Order::Quit => line_of(alloc, OperatorAnswer::Bye),
     }
@@ -107,10 +110,26 @@ fn show_order<C: Owes, A: Answerer>(
     id: FlowId,
 ) -> Result<Vec<u8>, NoMemory>
     ensures shows { (due : Due) (course : Course A.State) (files : FilesMeaning) (trace : Trace) → RouterStands C.stands C.awaited C.number C.due A.answers A.state due course files router.now trace →
-        IfOk result (λ text. IsShownOf A.answers due course trace id text.items) }
+        IfOk result (λ text. IsShownOf A.answers due course trace show_text id text.items) }
 {
     match router.flow(id) {
         Some(flow) => flow_text(alloc, flow),
+        None => line_of(alloc, OperatorAnswer::NoSuchFlow),
+    }
+}
+
+/// The text of a part of the entry of a flow as it was asked about last, from that byte on.
+fn entry_order<C: Owes, A: Answerer>(
+    alloc: Global,
+    router: &Router<C, A>,
+    id: FlowId,
+    from: u64,
+) -> Result<Vec<u8>, NoMemory>
+    ensures gives { (due : Due) (course : Course A.State) (files : FilesMeaning) (trace : Trace) → RouterStands C.stands C.awaited C.number C.due A.answers A.state due course files router.now trace →
+        IfOk result (λ text. IsShownOf A.answers due course trace (entry_line from) id text.items) }
+{
+    match router.flow(id) {
+        Some(flow) => part_text(alloc, flow, from),
         None => line_of(alloc, OperatorAnswer::NoSuchFlow),
     }
 }

@@ -2,13 +2,14 @@
 ghost use Rattle.std.specs.Prelude.{◌≡◌, ◌++◌, IfOk, OnOk};
 ghost use Rattle.std.specs.List.{flat_map};
 ghost use Rattle.px_view.specs.Answers.{answer_text};
+ghost use Rattle.px_view.specs.Entry.{entry_line as line_of_part};
 ghost use Rattle.px_view.specs.Show.{show_text as text_of_flow};
 ghost use Rattle.px_obey.specs.Obeyed.{list_text, state_answer, state_text};
 
 use px_event::Hook;
 use px_message::{Flow, FlowId};
 use px_text::NoMemory;
-use px_view::{OperatorAnswer, answer_line, show_text};
+use px_view::{OperatorAnswer, answer_line, entry_line, show_text};
 use std::alloc::Global;
 
 /// The line of an answer.
@@ -26,6 +27,15 @@ pub(crate) fn flow_text(alloc: Global, flow: &Flow) -> Result<Vec<u8>, NoMemory>
 {
     let mut text = Vec::new(alloc);
     show_text(flow, &mut text)?;
+    Ok(text)
+}
+
+/// The line of the part of a flow's entry from that byte on.
+pub(crate) fn part_text(alloc: Global, flow: &Flow, from: u64) -> Result<Vec<u8>, NoMemory>
+    ensures { IfOk result (λ text. text.items ≡ line_of_part from flow.now) }
+{
+    let mut text = Vec::new(alloc);
+    entry_line(flow, from, &mut text)?;
     Ok(text)
 }
 

@@ -112,6 +112,7 @@ is_quit_order : (one : Order) → is_quit (outcome_of one) ≡ true → one ≡ 
 is_quit_order order.Quit is = refl
 is_quit_order order.List is = absurd (goes_on_quits is)
 is_quit_order (order.Show id) is = absurd (goes_on_quits is)
+is_quit_order (order.Entry id from) is = absurd (goes_on_quits is)
 is_quit_order (order.Act operation) is = absurd (goes_on_quits is)
 
 module _ {S : Type 0} (answers : Answering S) (drops : List ℕ → S → S → Type 0) (names : S → List (List ℕ)) (due : Due) where

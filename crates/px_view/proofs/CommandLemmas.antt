@@ -44,9 +44,9 @@ words_some line r at found some =
     some_by line at _ refl (sym found ∙ some)
     ∙ ap (λ (t : List ℕ). take at line ∷ slice_split is_blank t) (sym (tail_is line (at + 1)))
 
-three_words : (word name : List ℕ) (words : List (List ℕ)) → 0 < length words → order_of_words (word ∷ name ∷ words) ≡ Err error.UnknownCommand
-three_words word name [] some = absurd (omega arith)
-three_words word name (more ∷ others) some = refl
+four_words : (word name place : List ℕ) (words : List (List ℕ)) → 0 < length words → order_of_words (word ∷ name ∷ place ∷ words) ≡ Err error.UnknownCommand
+four_words word name place [] some = absurd (omega arith)
+four_words word name place (more ∷ others) some = refl
 
 parts_some : (b : ℕ) (t : Bool) (parts : List (List ℕ)) → 0 < length parts → 0 < length (cond t ([] ∷ parts) (onto_first b parts))
 parts_some b true parts some = omega arith
@@ -58,11 +58,11 @@ split_some [] = omega arith
 split_some (b ∷ text) = parts_some b (is_blank b) (slice_split is_blank text) (split_some text)
 
 -- a word more is no command
-pub more_words : (word rest : List ℕ) (r : Option ℕ) (at : ℕ) → r ≡ position is_blank rest → r ≡ Some at
-    → order_of_words (word ∷ slice_split is_blank rest) ≡ Err error.UnknownCommand
-more_words word rest r at found some =
-    ap (λ (words : List (List ℕ)). order_of_words (word ∷ words)) (words_some rest r at found some)
-    ∙ three_words word (take at rest) (slice_split is_blank (take (length rest - (at + 1)) (drop (at + 1) rest))) (split_some (take (length rest - (at + 1)) (drop (at + 1) rest)))
+pub more_words : (word name rest : List ℕ) (r : Option ℕ) (at : ℕ) → r ≡ position is_blank rest → r ≡ Some at
+    → order_of_words (word ∷ name ∷ slice_split is_blank rest) ≡ Err error.UnknownCommand
+more_words word name rest r at found some =
+    ap (λ (words : List (List ℕ)). order_of_words (word ∷ name ∷ words)) (words_some rest r at found some)
+    ∙ four_words word name (take at rest) (slice_split is_blank (take (length rest - (at + 1)) (drop (at + 1) rest))) (split_some (take (length rest - (at + 1)) (drop (at + 1) rest)))
 
 -- what a reader of one definition gives is that of an equal one
 pub ok_by : (due other : Result Order CommandError) (given : Result Order CommandError) → other ≡ due
@@ -75,6 +75,16 @@ pub err_by : (due other : Result Order CommandError) (given : Result Order Comma
 err_by due other (Ok order) is h = tt
 err_by due other (Err e) is (inl memory) = inl memory
 err_by due other (Err e) is (inr h) = inr (is ∙ h)
+
+-- what is given equals one definition, and so an equal one
+pub ok_same : (due other : Result Order CommandError) (given : Result Order CommandError) → other ≡ due → given ≡ due → IfOk given (λ order. other ≡ Ok order)
+ok_same due other (Ok order) is same = is ∙ sym same
+ok_same due other (Err e) is same = tt
+
+pub err_same : (due other : Result Order CommandError) (given : Result Order CommandError) → other ≡ due → given ≡ due
+    → IfErr given (λ e. (e ≡ error.NoMemory) ⊎ (other ≡ Err e))
+err_same due other (Ok order) is same = tt
+err_same due other (Err e) is same = inr (is ∙ sym same)
 
 -- a line of one word that is no command
 pub lone_err : (line : List ℕ) (given : Result Order CommandError) → given ≡ lone_order line → slice_split is_blank line ≡ line ∷ []

@@ -19,6 +19,14 @@ is_dot b = b == 46
 abbrev pub written_as : List ℕ → ℕ → Option ℕ
 written_as text n = if nat_lt n (2 ^ 32) && bytes_eq (decimal n) text then Some n else None
 
+-- the number, if the text is what is written for it
+abbrev pub spelled_as : List ℕ → ℕ → Option ℕ
+spelled_as text n = if bytes_eq (decimal n) text then Some n else None
+
+-- the number below 2 ^ 64 whose digits these are, without a sign and without leading zeros: a place in a text
+abbrev pub place_number : List ℕ → Option ℕ
+place_number text = option_and_then (spelled_as text) (decimal_value text)
+
 -- the number below 2 ^ 32 whose digits these are, without a sign and without leading zeros
 abbrev pub small_number : List ℕ → Option ℕ
 small_number text = option_and_then (written_as text) (decimal_value text)
@@ -55,12 +63,25 @@ pair_order word name =
     else (if bytes_eq word (codes "drop") then Ok (order.Act (operation.DropAddon name))
     else Err error.UnknownCommand))))
 
+-- the part of the entry of that flow from that place on
+abbrev pub part_order : Option FlowId → Option ℕ → Result Order CommandError
+part_order (Some id) (Some from) = Ok (order.Entry id from)
+part_order (Some id) None = Err error.BadNumber
+part_order None from = Err error.BadNumber
+
+-- a word, the name of a flow, and a place
+abbrev pub triple_order : List ℕ → List ℕ → List ℕ → Result Order CommandError
+triple_order word name place =
+    if bytes_eq word (codes "entry") then part_order (flow_id name) (place_number place)
+    else Err error.UnknownCommand
+
 -- the order of these words; another number of words is no command
 abbrev pub order_of_words : List (List ℕ) → Result Order CommandError
 order_of_words [] = Err error.UnknownCommand
 order_of_words (word ∷ []) = lone_order word
 order_of_words (word ∷ name ∷ []) = pair_order word name
-order_of_words (word ∷ name ∷ more ∷ others) = Err error.UnknownCommand
+order_of_words (word ∷ name ∷ place ∷ []) = triple_order word name place
+order_of_words (word ∷ name ∷ place ∷ more ∷ others) = Err error.UnknownCommand
 
 -- the order of a line, whose words are what stands between its spaces
 abbrev pub order_of : List ℕ → Result Order CommandError

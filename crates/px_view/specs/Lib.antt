@@ -2,6 +2,7 @@ pub mod Answers
 pub mod Commands
 pub mod Desk
 pub mod DeskLaws
+pub mod Entry
 pub mod Laws
 pub mod Line
 pub mod Rows

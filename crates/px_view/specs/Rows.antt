@@ -12,6 +12,9 @@ pub record RowsHold : Type 0 where
   pub no_word : order_of [] ≡ Err error.UnknownCommand
   pub word_more : order_of (codes "list x") ≡ Err error.UnknownCommand
   pub show : order_of (codes "show 1.2") ≡ Ok (order.Show record { conv = 1; index = 2 })
+  pub entry : order_of (codes "entry 1.2 0") ≡ Ok (order.Entry record { conv = 1; index = 2 } 0)
+  pub entry_further : order_of (codes "entry 1.2 65536") ≡ Ok (order.Entry record { conv = 1; index = 2 } 65536)
+  pub entry_largest : order_of (codes "entry 1.2 18446744073709551615") ≡ Ok (order.Entry record { conv = 1; index = 2 } 18446744073709551615)
   pub kill : order_of (codes "kill 0.4294967295") ≡ Ok (order.Act (operation.Kill record { conv = 0; index = 4294967295 }))
   pub drop_word : order_of (codes "drop a") ≡ Ok (order.Act (operation.DropAddon (codes "a")))
   pub two_spaces : order_of (codes "show  1.2") ≡ Err error.UnknownCommand
@@ -21,3 +24,11 @@ pub record RowsHold : Type 0 where
   pub leading_zero : order_of (codes "show 00.0") ≡ Err error.BadNumber
   pub sign : order_of (codes "show +1.2") ≡ Err error.BadNumber
   pub too_large : order_of (codes "show 4294967296.0") ≡ Err error.BadNumber
+  pub entry_no_place : order_of (codes "entry 1.2") ≡ Err error.UnknownCommand
+  pub entry_word_more : order_of (codes "entry 1.2 0 0") ≡ Err error.UnknownCommand
+  pub entry_one_number : order_of (codes "entry 1 0") ≡ Err error.BadNumber
+  pub entry_no_digit : order_of (codes "entry 1.2 x") ≡ Err error.BadNumber
+  pub entry_no_word : order_of (codes "entry 1.2 ") ≡ Err error.BadNumber
+  pub entry_leading_zero : order_of (codes "entry 1.2 00") ≡ Err error.BadNumber
+  pub entry_too_large : order_of (codes "entry 1.2 18446744073709551616") ≡ Err error.BadNumber
+  pub show_word_more : order_of (codes "show 1.2 0") ≡ Err error.UnknownCommand

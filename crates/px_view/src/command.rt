@@ -5,7 +5,7 @@
 ghost use Rattle.std.specs.Prelude.{◌≡◌, ◌⊎◌, ◌∷◌, Some, None, Ok, Err, IfOk, IfErr, position};
 ghost use Rattle.std.specs.List.{slice_split};
 ghost use Rattle.px_view.specs.declared.command.CommandError.TheVariants as error;
-ghost use Rattle.px_view.specs.Commands.{flow_id, is_blank, is_dot, lone_order, order_of, order_of_words, pair_order, small_number};
+ghost use Rattle.px_view.specs.Commands.{flow_id, is_blank, is_dot, lone_order, order_of, order_of_words, pair_order, part_order, place_number, small_number, triple_order};
 
 use itoa::Buffer;
 use px_core::Operation;
@@ -20,6 +20,8 @@ pub enum Order {
     List,
     /// This flow is shown.
     Show(FlowId),
+    /// A part of the entry of this flow is given, from that byte on.
+    Entry(FlowId, u64),
     /// Something is done to a flow or an addon.
     Act(Operation),
     /// The run ends.
@@ -31,7 +33,7 @@ pub enum Order {
 pub enum CommandError {
     /// Its first word is no command, or the command has another number of words.
     UnknownCommand,
-    /// The word for a flow names none.
+    /// The word for a flow names none, or the word for a place is no number.
     BadNumber,
     /// Memory ran out; it says nothing of the line.
     NoMemory,
@@ -82,7 +84,46 @@ fn read_behind(alloc: Global, word: &[u8], rest: &[u8]) -> Result<Order, Command
 {
     match blank_in(rest) {
         None => read_pair(alloc, word, rest),
+        Some(blank) => read_more(word, &rest[..blank], &rest[blank + 1..]),
+    }
+}
+
+// A first word, the next, and what stands behind the space behind it.
+fn read_more(word: &[u8], name: &[u8], rest: &[u8]) -> Result<Order, CommandError>
+    ensures { result ≡ order_of_words (word.now ∷ name.now ∷ slice_split is_blank rest.now) }
+{
+    match blank_in(rest) {
+        None => read_triple(word, name, rest),
         Some(_) => Err(CommandError::UnknownCommand),
+    }
+}
+
+fn read_triple(word: &[u8], name: &[u8], place: &[u8]) -> Result<Order, CommandError>
+    ensures { result ≡ triple_order word.now name.now place.now }
+{
+    if word == b"entry".as_slice() {
+        part_from(read_id(name), place_of(place))
+    } else {
+        Err(CommandError::UnknownCommand)
+    }
+}
+
+// The part of the entry of that flow from that place on.
+fn part_from(flow: Option<FlowId>, from: Option<u64>) -> Result<Order, CommandError>
+    ensures { result ≡ part_order flow from }
+{
+    match flow {
+        None => Err(CommandError::BadNumber),
+        Some(id) => part_of_flow(id, from),
+    }
+}
+
+fn part_of_flow(id: FlowId, from: Option<u64>) -> Result<Order, CommandError>
+    ensures { result ≡ part_order (Some id) from }
+{
+    match from {
+        None => Err(CommandError::BadNumber),
+        Some(from) => Ok(Order::Entry(id, from)),
     }
 }
 
@@ -135,6 +176,19 @@ fn number_of(digits: &[u8]) -> Option<u32>
     ensures { result ≡ small_number digits.now }
 {
     let n = u32::try_from(read_decimal(digits)?).ok()?;
+    let mut buffer = Buffer::new();
+    if buffer.format(n).as_bytes() == digits {
+        Some(n)
+    } else {
+        None
+    }
+}
+
+// The place whose digits these are, in its one spelling.
+fn place_of(digits: &[u8]) -> Option<u64>
+    ensures { result ≡ place_number digits.now }
+{
+    let n = read_decimal(digits)?;
     let mut buffer = Buffer::new();
     if buffer.format(n).as_bytes() == digits {
         Some(n)

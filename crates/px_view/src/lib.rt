@@ -15,7 +15,8 @@
 //!
 //! Answers are texts: one line of each kind (`specs/Answers.antt`), and what is shown of a flow, one line of JSON (RFC 8259). It is the
 //! text that serde_json writes for a value (`specs/Show.antt`). Bytes are shown as the characters of the same numbers, since a method
-//! or a URL is no UTF-8 for sure, and JSON has no bytes: so nothing is lost, and nothing is refused.
+//! or a URL is no UTF-8 for sure, and JSON has no bytes: so nothing is lost, and nothing is refused. All of a flow is its entry, of
+//! which a line has a part (`specs/Entry.antt`), from the byte on that was asked for.
 //!
 //! Which flows are live, and what an order does to them, is told elsewhere: this crate knows one flow at a time.
 #![tactic(auto)]
@@ -23,6 +24,7 @@
 mod answer;
 mod command;
 mod desk;
+mod entry;
 mod laws;
 mod line;
 mod show;
@@ -30,6 +32,7 @@ mod show;
 pub use answer::{OperatorAnswer, answer_line};
 pub use command::{CommandError, Order, read_command};
 pub use desk::{Desk, Line};
+pub use entry::entry_line;
 pub use laws::{
     lines_are_cut_free, lines_are_whole, little_is_kept, rows_hold, written_id_is_read,
 };

@@ -1,6 +1,6 @@
-use Rattle.std.proofs.Common.{◌∷◌, ap, inr}
+use Rattle.std.proofs.Common.{◌∷◌, ap}
 use Rattle.px_view.specs.Commands.{order_of_words}
-use Rattle.px_view.proofs.CommandLemmas.{words_none, more_words, ok_by, err_by}
+use Rattle.px_view.proofs.CommandLemmas.{words_none, words_some, ok_by, err_by, ok_same, err_same}
 use Rattle.px_view.proofs.command.read_behind.Goals as goal
 
 pub returns-in-None-clause-ok : goal.returns-in-None-clause-ok
@@ -15,5 +15,14 @@ returns-in-None-clause-refused c =
     (ap (λ words. order_of_words (c.args.word.now ∷ words)) (words_none c.args.rest.now c.blank_in.result c.blank_in.ensures c.in-None.is))
     c.read_pair.ensures.refused
 
+pub returns-in-Some-clause-ok : goal.returns-in-Some-clause-ok
+returns-in-Some-clause-ok c =
+    ok_same _ _ c.read_more.result
+    (ap (λ words. order_of_words (c.args.word.now ∷ words)) (words_some c.args.rest.now c.blank_in.result c.in-Some.blank c.blank_in.ensures c.in-Some.is))
+    c.read_more.ensures
+
 pub returns-in-Some-clause-refused : goal.returns-in-Some-clause-refused
-returns-in-Some-clause-refused c = inr (more_words c.args.word.now c.args.rest.now c.blank_in.result c.in-Some.field-0 c.blank_in.ensures c.in-Some.is)
+returns-in-Some-clause-refused c =
+    err_same _ _ c.read_more.result
+    (ap (λ words. order_of_words (c.args.word.now ∷ words)) (words_some c.args.rest.now c.blank_in.result c.in-Some.blank c.blank_in.ensures c.in-Some.is))
+    c.read_more.ensures
