@@ -7,7 +7,7 @@ REQUEST = re.compile(rb"(" + TOKEN + rb") ([^\x00-\x20\x7f]+) HTTP/1\.[01]\Z")
 STATUS = re.compile(rb"HTTP/1\.[01] (\d{3}) ([^\r\n\0]*)\Z")
 FIELD = re.compile(rb"(" + TOKEN + rb"): ([^\r\n\0]*)\Z")
 LINE = re.compile(
-    rb"(\d+)\.(\d+) (" + TOKEN + rb") (http://[^\x00-\x20\x7f]+) (\d{3}|-) (\d+|-)"
+    rb"(\d+)\.(\d+) (" + TOKEN + rb") (http://[^\x00-\x20\x7f]+) (\d{3}|-) (\d+|-|streamed)"
     rb"( error: (?:cannot connect|upstream refused|server closed early|bad response|bad chunk|client closed|killed))?\Z")
 METHOD = re.compile(rb"(?:GET|HEAD|POST|PUT|DELETE|OPTIONS|TRACE|PATCH) ")
 CHUNK = re.compile(rb"([0-9a-f]+)\r\n")
@@ -247,6 +247,8 @@ def places_printed(printed):
 
 ID = re.compile(rb"(0|[1-9]\d*)\.(0|[1-9]\d*)\Z")
 KEYS = ["code", "error", "id", "marked", "messages", "method", "url"]
+PLACE = re.compile(rb"(0|[1-9]\d*)\Z")
+PART = 65536
 
 
 def lines_said(text):
@@ -296,7 +298,18 @@ def wrong_answer(line, answers, place, whole):
         return place + 1, wrong_shown(answer, line)
     if wanted == "show":
         return place + 1, None
+    if wanted == "entry":
+        return place + 1, None if len(answer) <= PART else "a part that is too long"
     return place + 1, None if answer in wanted else "a wrong answer"
+
+
+def is_id(word):
+    found = ID.match(word)
+    return bool(found) and int(found[1]) < 1 << 32 and int(found[2]) < 1 << 32
+
+
+def is_place(word):
+    return bool(PLACE.match(word)) and int(word) < 1 << 64
 
 
 def wanted_answer(line):
@@ -307,12 +320,13 @@ def wanted_answer(line):
         return "list"
     if line == b"quit":
         return (b"bye",)
+    if words[0] == b"entry" and len(words) == 3:
+        return "entry" if is_id(words[1]) and is_place(words[2]) else (b"bad number",)
     if len(words) != 2 or words[0] not in (b"show", b"resume", b"kill", b"mark", b"drop"):
         return (b"unknown command",)
     if words[0] == b"drop":
         return (b"ok", b"no such addon")
-    found = ID.match(words[1])
-    if not found or int(found[1]) >= 1 << 32 or int(found[2]) >= 1 << 32:
+    if not is_id(words[1]):
         return (b"bad number",)
     if words[0] == b"show":
         return "show"
