@@ -17,7 +17,7 @@ ghost use Rattle.px_said.specs.ClosedForm.{GoesOn, first_flows, said, said_of_fl
 ghost use Rattle.px_said.specs.Walks.{ComesBy, FlowBegins, Walk, answered, by_moves, due_from, heard, point_at};
 ghost use Rattle.px_said.specs.WhatWasRead.{OneRequestIsSaid, OneResponseIsSaid, SayWhatWasRead, messages_read};
 
-/// Where every reply to the first so many flows from a place on goes on with the flow as it was asked, and their dials are answered by the connection or refused:
+/// Where every reply to the first so many flows from a place on goes on with the flow as it was asked and allows no body to be streamed, and their dials are answered by the connection or refused:
 /// the texts that are sent for them and their dials, in order, begin those of the closed form, which are said of the client's stream, one request behind the other,
 /// and of what each server sent. Where no question of them waits, and the client has not closed, they are all of them. The place is any one of any walk where a
 /// request is awaited, whatever the flows before were answered, and with a parked side or none; and what is replied behind those flows makes no difference. So each
@@ -43,7 +43,7 @@ pub fn what_is_due_goes_on_from_each_place()
     ensures whole { (flows : ℕ) (due : List Command) → length due ≤ flows → first_flows flows due ≡ due }
 {}
 
-/// Where every reply to the first so many flows from a place on, any one of any walk where a request is awaited, goes on with the flow as it was asked, and their
+/// Where every reply to the first so many flows from a place on, any one of any walk where a request is awaited, goes on with the flow as it was asked and allows no body to be streamed, and their
 /// dials are answered by the connection or refused: the texts that are sent for them, but for the proxy's own, say the requests of the client's stream and what
 /// their servers answered, in order and without a gap. Whoever gets a request reads its method, path, version, fields, body and trailers as they were read, and
 /// whoever gets a response its version, status, reason, fields, body and trailers.
