@@ -30,7 +30,7 @@ from rows_cases import ROWS_CASES
 from saving_cases import SAVING_CASES
 from show_cases import SHOW_CASES
 from start_cases import START_CASES
-from stream_cases import STREAM_CASES
+from stream_cases import GOING_UP_CASES, STREAM_CASES
 from tools import (
     ORIGIN, PROXY, TOP, Mitm, Origin, Tally, curl, get, line, raise_limit, raise_loopback, read_all, read_answers, same, talk, url, wait_for,
 )
@@ -218,7 +218,7 @@ CASES = [
 # The cases that have a run of their own.
 OWN_CASES = [
     *BUSY_CASES, *OPTION_CASES, *MODE_CASES, *TUNNEL_CASES, *UPSTREAM_CASES, *WEBSOCKET_CASES, *PAGE_CASES, *SAVING_CASES, *EXPORT_CASES, *SHOW_CASES, *REPLAY_CASES,
-    *KEPT_CASES, *STREAM_CASES, *RESEND_CASES, *OPERATOR_CASES, *VIEW_CASES, *START_CASES, *DOOR_CASES, *NAME_CASES, *FILE_CASES,
+    *KEPT_CASES, *STREAM_CASES, *GOING_UP_CASES, *RESEND_CASES, *OPERATOR_CASES, *VIEW_CASES, *START_CASES, *DOOR_CASES, *NAME_CASES, *FILE_CASES,
     *WORD_CASES, *ROWS_CASES, *HOSTILE_CASES, *FUZZ_CASES,
 ]
 

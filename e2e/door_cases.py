@@ -106,6 +106,8 @@ def said_at_the_door(pieces):
 def case_request_at_the_operators_door():
     """A connection that begins with a request is shut, and none of its lines is heard; the words of operators begin otherwise."""
     with Operated() as mitm, Operator() as operator:
+        # (an operator who was answered was let in)
+        same(operator.flows(), {})
         before = mitm.sockets()
         for method in METHODS:
             text = f"{method} / HTTP/1.1\r\nHost: x\r\n\r\nlist\nquit\n"

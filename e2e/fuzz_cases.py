@@ -5,7 +5,7 @@ import subprocess
 import sys
 
 from fuzz_parse import Cut, Wrong, read_request, unmasked, wrong_answers, wrong_lines, wrong_responses
-from fuzz_texts import frame
+from fuzz_texts import frame, sent_on
 from tools import HERE, MITM, Skipped, same
 
 SEED, SECONDS = 1, 20
@@ -41,6 +41,7 @@ def case_fuzzer_tells_what_is_wrong():
         same((field, is_wrong_request(request % field) or read_request(request % field + b"abcd", 0)[2] != len(request % field)), (field, wrong))
     for wrong, body in ((False, b"1\r\na\r\n0\r\n\r\n"), (True, b"0x1\r\na\r\n0\r\n\r\n"), (True, b"1\r\nab\r\n0\r\n\r\n"), (True, b"1\na\r\n0\r\n\r\n")):
         same((body, is_wrong_request(request % b"Transfer-Encoding: chunked" + body)), (body, wrong))
+    same(sent_on(b"00A;x=y\r\n0123456789\r\n1 \r\na\r\n000\r\nT: 1\r\n\r\n"), b"a\r\n0123456789\r\n1\r\na\r\n0\r\nT: 1\r\n\r\n")
     for wrong, text in ((False, ANSWER * 2), (True, ANSWER[:-1]), (True, ANSWER + b"x"), (True, ANSWER.replace(b"\r\nC", b"\nC")), (False, ANSWER + OWN), (True, OWN + ANSWER),
                         (True, OWN.replace(b"bad t", b"bed t"))):
         same((text, wrong_responses(text, False, False) is not None), (text, wrong))

@@ -9,7 +9,7 @@ import zlib
 
 from fuzz_parse import Cut, Wrong, read_request, unmasked, wrong_answers
 from fuzz_talks import ESTABLISHED, operator_text, random_of, server_steps, websocket_steps
-from fuzz_texts import AGREES, ASKS, PATH, SERVER, SPEAKER, SWITCHES, exchange, frame, lines, pieces, target_of, websocket
+from fuzz_texts import AGREES, ASKS, PATH, SERVER, SPEAKER, SWITCHES, exchange, frame, is_streamed, lines, pieces, target_of, websocket
 
 PROXY, CONTROL = ("127.0.0.1", 8280), ("127.0.0.1", 8281)
 # Seconds: those behind which a mutated side gives up; those in which an honest client is served; those behind which nothing comes any more.
@@ -392,7 +392,8 @@ class Honest(threading.Thread):
     def post(self, number):
         with connected(PROXY, PATIENCE) as connection:
             connection.sendall(self.ask(b"POST", b"post" + number, b"Connection: close", b"Transfer-Encoding: chunked") + b"2;x\r\nab\r\n1\r\nc\r\n0\r\n\r\n")
-            return self.compare(connection, honest_answer(b"post" + number, b"3\r\nabc\r\n0\r\n\r\n"))
+            chunks = b"2\r\nab\r\n1\r\nc" if is_streamed(b"abc", self.run_of.most) else b"3\r\nabc"
+            return self.compare(connection, honest_answer(b"post" + number, chunks + b"\r\n0\r\n\r\n"))
 
     def two(self, number):
         with connected(PROXY, PATIENCE) as connection:

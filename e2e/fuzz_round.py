@@ -54,10 +54,12 @@ class Round:
         if rng.random() < 0.25:
             lines.append('server_replay = ["answers"]\nserver_replay_ignore_content = true' + rng.choice(("", "\nserver_replay_reuse = true")))
             write(folder, "answers", recorded(self.seed, "answers"))
-        # (where responses are streamed nobody says in advance in which chunks they come, and one may be cut short)
-        self.streams = random_of(self.seed, "streams").random() < 0.4
-        if self.streams:
-            lines.append(f'stream_large_bodies = {random_of(self.seed, "size").choice((0, 0, 1, 10, 100, 1000))}')
+        # (a message that is streamed comes in the chunks of its sender, and may be cut short; where flows are recorded or wait none is)
+        self.most = None
+        if random_of(self.seed, "streams").random() < 0.4:
+            size = random_of(self.seed, "size").choice((0, 0, 1, 10, 100, 1000))
+            self.most = None if any(line.startswith(("intercept", "server_replay")) for line in lines) else size
+            lines.append(f"stream_large_bodies = {size}")
         os.makedirs(os.path.join(folder, "files"))
         write(folder, "files/0", b"a local file\n" * 300)
         write(folder, "options", "\n".join(lines).encode() + b"\n")
@@ -106,7 +108,7 @@ class Round:
     def talk(self):
         rng, few = self.rng, self.end_by == "descriptors"
         span = 1.0
-        exact = [] if few or self.streams else [Client(number, exact_talk(self.seed, number, self.mode), rng.random() * span) for number in range(rng.choice((4, 8, 12)))]
+        exact = [] if few else [Client(number, exact_talk(self.seed, number, self.mode, self.most), rng.random() * span) for number in range(rng.choice((4, 8, 12)))]
         mutated = [Client(1000 + number, mutated_talk(self.seed, number, self.mode), rng.random() * span) for number in range(rng.choice((15, 30, 60)))]
         self.clients = exact + mutated
         self.operators = [Operator(self.seed, number, rng.random() * span) for number in range(rng.choice((0, 3, 8)))]
@@ -289,7 +291,7 @@ class Round:
             if talk.exact:
                 self.check_exact(client, talk, got, printed)
                 continue
-            may_be_cut = self.was_cut or self.streams or client.ended != "read" or not client.is_eof
+            may_be_cut = self.was_cut or self.most is not None or client.ended != "read" or not client.is_eof
             why = wrong_responses(got, talk.heads, may_be_cut)
             if why:
                 self.find(f"{client.name} got {got[:600]!r}: {why}")

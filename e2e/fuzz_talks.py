@@ -29,10 +29,11 @@ class Talk:
 
 
 def shown(method, path, code, size):
-    return b"%s http://127.0.0.1:%d%s %d %d" % (method, SERVER, path, code, size)
+    return b"%s http://127.0.0.1:%d%s %d %s" % (method, SERVER, path, code, size)
 
 
-def exact_talk(seed, number, mode):
+def exact_talk(seed, number, mode, most=None):
+    """One of which all is known, in a run that streams what is above this size."""
     rng = seeded("talk", seed, "x", number)
     talk = Talk(exact=True, heads=True)
     kinds = ["requests", "requests", "requests", "websocket", "upgrade"]
@@ -48,7 +49,7 @@ def exact_talk(seed, number, mode):
             talk.send(rng, front)
             talk.steps.append(("await", len(talk.answered)))
             front = b""
-    {"re": exact_requests, "we": exact_websocket, "ra": exact_raw, "up": exact_upgrade}[kind[:2]](rng, talk, seed, number, mode, front, inside)
+    {"re": exact_requests, "we": exact_websocket, "ra": exact_raw, "up": exact_upgrade}[kind[:2]](rng, talk, seed, number, mode, front, inside, most)
     talk.steps.append(("read", 0))
     return talk
 
@@ -57,10 +58,10 @@ def connect(port, host=b"127.0.0.1"):
     return lines(b"CONNECT %s:%d HTTP/1.1" % (host, port), b"Host: %s:%d" % (host, port))
 
 
-def exact_requests(rng, talk, seed, number, mode, front, inside):
+def exact_requests(rng, talk, seed, number, mode, front, inside, most):
     count, one_by_one = rng.choice((1, 1, 2, 4)), rng.random() < 0.5
     for index in range(count):
-        made = exchange(seed, "x", number, index, mode, index == count - 1, inside)
+        made = exchange(seed, "x", number, index, mode, index == count - 1, inside, most)
         talk.answered += made.answered
         talk.printed.append(shown(made.method, made.path, made.code, made.size))
         talk.asked[made.path] = made.asked
@@ -73,29 +74,29 @@ def exact_requests(rng, talk, seed, number, mode, front, inside):
         talk.send(rng, front)
 
 
-def exact_websocket(rng, talk, seed, number, mode, front, inside):
+def exact_websocket(rng, talk, seed, number, mode, front, inside, most):
     made = websocket(seed, "x", number, 0, mode, inside)
     talk.send(rng, front + made.request)
     talk.steps.append(("await", len(talk.answered + made.response)))
     talk.send(rng, made.request_frames)
     talk.answered += made.answered
-    talk.printed.append(shown(b"GET", made.path, 101, 0))
+    talk.printed.append(shown(b"GET", made.path, 101, b"0"))
     talk.asked[made.path] = made.asked
 
 
-def exact_raw(rng, talk, seed, number, mode, front, inside):
+def exact_raw(rng, talk, seed, number, mode, front, inside, most):
     body = some_bytes(rng, 200_000)
     talk.send(rng, front + b"RAW %08x\n" % len(body) + body)
     talk.answered += body
 
 
-def exact_upgrade(rng, talk, seed, number, mode, front, inside):
+def exact_upgrade(rng, talk, seed, number, mode, front, inside, most):
     """A 101 that begins no WebSocket, so what follows is echoed as it is."""
     body, path = some_bytes(rng, 50_000), b"/f/x%d/0/raw" % number
     sent, got = target_of(mode, path)
     talk.send(rng, lines(b"GET " + sent + b" HTTP/1.1", b"Host: x", b"Connection: Upgrade", b"Upgrade: raw") + b"RAW %08x\n" % len(body) + body)
     talk.answered += SWITCHES + body
-    talk.printed.append(shown(b"GET", path, 101, 0))
+    talk.printed.append(shown(b"GET", path, 101, b"0"))
     talk.asked[path] = lines(b"GET " + got + b" HTTP/1.1", b"Host: x", b"Connection: Upgrade", b"Upgrade: raw")
 
 

@@ -23,7 +23,7 @@ class Exchange:
     response: bytes = b""
     answered: bytes = b""
     code: int = 200
-    size: int = 0
+    size: bytes = b"0"
     kind: str = "plain"
     frames: list = field(default_factory=list)
 
@@ -68,6 +68,22 @@ def one_chunk(body, ends=b"\r\n"):
     return (b"%x\r\n" % len(body) + body + b"\r\n" if body else b"") + b"0\r\n" + ends
 
 
+def sent_on(text):
+    """Chunks as they are sent on where their message is streamed: the sender's, their lines spelled anew."""
+    on, place = b"", 0
+    while True:
+        end = text.index(b"\r\n", place)
+        size = int(re.match(rb"[0-9A-Fa-f]+", text[place:end])[0], 16)
+        if size == 0:
+            return on + b"0" + text[end:]
+        on, place = on + b"%x" % size + text[end:end + size + 4], end + size + 4
+
+
+def is_streamed(body, most):
+    """Whether it is above this size, where there is one."""
+    return most is not None and len(body) > most
+
+
 def target_of(mode, path, inside=False, port=SERVER):
     """What a client asks for, and what its server is asked for."""
     whole = b"http://127.0.0.1:%d" % port + path
@@ -76,17 +92,17 @@ def target_of(mode, path, inside=False, port=SERVER):
     return whole, whole if mode == "upstream" else path
 
 
-def exchange(seed, kind, client, number, mode, last=True, inside=False):
-    """The exchange of these numbers; the last one of its connection closes it."""
+def exchange(seed, kind, client, number, mode, last=True, inside=False, most=None):
+    """The exchange of these numbers; the last one of its connection closes it. Bodies above the size `most` are streamed."""
     rng = seeded("exchange", seed, kind, client, number)
     made = Exchange(path=b"/f/%s%d/%d" % (kind.encode(), client, number) + rng.choice((b"", b"?a=b&c", b"/%2e%2e/x;y", b"?\xc3\xa4")))
     made.method = rng.choice(METHODS[:6] + (b"GET", b"POST", b"POST") + ((b"FOO!",) if kind == "m" else ()))
-    ask_for(rng, made, mode, last, inside)
-    answer_to(rng, made, last)
+    ask_for(rng, made, mode, last, inside, most)
+    answer_to(rng, made, last, most)
     return made
 
 
-def ask_for(rng, made, mode, last, inside):
+def ask_for(rng, made, mode, last, inside, most):
     sent, got = target_of(mode, made.path, inside)
     extra = fields_of(rng) + ([b"Connection: close"] if last else [])
     host = [b"Host: 127.0.0.1:%d" % SERVER]
@@ -95,7 +111,8 @@ def ask_for(rng, made, mode, last, inside):
     ask = [b"Expect: 100-continue"] if expects else []
     if body and rng.random() < 0.5:
         trailer = rng.choice((b"\r\n", b"X-T: 1\r\n\r\n"))
-        framing, text, written = [b"Transfer-Encoding: chunked"], chunks_of(rng, body, trailer), one_chunk(body, trailer)
+        framing, text = [b"Transfer-Encoding: chunked"], chunks_of(rng, body, trailer)
+        written = sent_on(text) if is_streamed(body, most) else one_chunk(body, trailer)
     else:
         framing = [b"Content-Length: %d" % len(body)] if body or rng.random() < 0.3 else []
         text = written = body
@@ -104,7 +121,7 @@ def ask_for(rng, made, mode, last, inside):
     made.answered = b"HTTP/1.1 100 Continue\r\n\r\n" if expects else b""
 
 
-def answer_to(rng, made, last):
+def answer_to(rng, made, last, most):
     """The response: with a length, in chunks, without a body, or to the close; interim ones may stand in front."""
     front = b"".join(lines(b"HTTP/1.1 %d %s" % choice, b"Link: </a>") for choice in
                      [rng.choice(((103, b"Early Hints"), (102, b"Processing"), (199, b""))) for _ in range(rng.choice((0, 0, 0, 1, 3)))])
@@ -114,15 +131,17 @@ def answer_to(rng, made, last):
     body = some_bytes(rng, 30_000, rng.random() < 0.3)
     if made.method == b"HEAD" or made.code in (204, 304):
         framing = [b"Content-Length: %d" % len(body)] if made.code != 204 and rng.random() < 0.5 else []
-        made.response, made.size = front + lines(status, *extra, *framing), 0
+        made.response = front + lines(status, *extra, *framing)
         made.answered += made.response
         return
-    made.size = len(body)
+    made.size = b"streamed" if is_streamed(body, most) else b"%d" % len(body)
     form = rng.choice(("length", "length", "chunks") + (("close",) if last else ()))
     if form == "chunks":
         trailer = rng.choice((b"\r\n", b"X-Sum: 11\r\nY: 2\r\n\r\n"))
         head = front + lines(status, *extra, b"Transfer-Encoding: chunked")
-        made.response, made.answered = head + chunks_of(rng, body, trailer), made.answered + head + one_chunk(body, trailer)
+        text = chunks_of(rng, body, trailer)
+        made.response = head + text
+        made.answered += head + (sent_on(text) if is_streamed(body, most) else one_chunk(body, trailer))
     elif form == "close":
         made.kind = "close"
         made.response = front + lines(status, *extra) + body

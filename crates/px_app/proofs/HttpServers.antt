@@ -1,6 +1,7 @@
 -- The dials that are due in HTTP at one place are numbered by their order.
 use Rattle.std.proofs.Common.{◌≡◌, ℕ, ◌+◌, Bool, true, false, List, [], ◌∷◌, length, Option, Some, None, refl, sym, ap, subst, arith}
-use Rattle.std.specs.Prelude.{⊤, ◌==◌, not, if◌then◌else◌}
+use Rattle.std.specs.Prelude.{⊤, ◌==◌, ◌&&◌, not, if◌then◌else◌}
+use Rattle.px_message.specs.declared.fault.Fault.{Fault}
 use Rattle.px_message.specs.declared.flow.Flow.{Flow}
 use Rattle.px_message.specs.declared.flow.FlowId.{FlowId}
 use Rattle.px_message.specs.declared.request.Request.{Request}
@@ -21,13 +22,14 @@ use Rattle.px_exchange.specs.declared.taken.Taken.{Taken}
 use Rattle.px_exchange.specs.declared.taken.Taken.TheVariants.{GoesOn, Responds, Kills}
 use Rattle.px_exchange.specs.declared.place.Place.{Place}
 use Rattle.px_exchange.specs.declared.terms.Terms.{Terms}
-use Rattle.px_chain.specs.Chain.{behind as behind_ask, behind_flow, dial_leads, finish_by, given_at, goes_on_by, http_chain, leaving, look, look_coming, parked_for, pass, pass_body, pass_came, pass_kept, sequence, so_far, turn, turn_answer, turn_body, turn_head, turn_judged, turn_response, turn_returned, turn_taken_answer, turn_taken_body, turn_taken_given, turn_taken_head, turn_taken_returned, turn_taken_whole}
+use Rattle.px_chain.specs.Chain.{bad_or, begin_up, begins_going, behind as behind_ask, behind_flow, come_down, dial_leads, end_by, end_up, finish_by, given_at, goes_on_by, goes_up_by, going_at, gone_by, http_chain, leaving, look, look_coming, look_up, parked_for, pass, pass_body, pass_came, pass_given, pass_going, pass_kept, sequence, sight_begun, sight_gone, so_far, turn, turn_answer, turn_body, turn_head, turn_judged, turn_response, turn_returned, turn_taken_answer, turn_taken_body, turn_taken_given, turn_taken_head, turn_taken_returned, turn_taken_whole}
 use Rattle.px_exchange.specs.Finds.{or_leaves, look_judged, look_head, look_body, look_answer_head, look_answer, look_returned, is_relayed}
 use Rattle.px_exchange.specs.Flows.{ask_of, response_of, with_answer, with_body, with_returned}
 use Rattle.px_chain.proofs.Quiet.{AllQuiet, LooksQuiet, any_flow}
 use Rattle.px_chain.specs.Sights.{Sight, Standing, answers_in, request_in, server_in, server_parked, sight_over}
+use Rattle.px_chain.specs.Going.{is_sent, sending_on, whole_in}
 use Rattle.px_chain.specs.Coming.{Came, allowed_by, came_in, goes_on_behind, streaming, streams_in}
-use Rattle.px_chain.specs.Stages.{At, Sent, Stage, busy, coming_down, connection, given_body, given_head, idle, next, over, request_body, response_body, response_head, unparked, upgraded}
+use Rattle.px_chain.specs.Stages.{At, Doing, Sent, Stage, all_sent, busy, coming_down, connection, given_body, given_head, going_up, idle, next, over, request_body, response_body, response_head, unparked, upgraded}
 use Rattle.px_chain.proofs.QuietLemmas.{behind_quiet, finds_quiet_end, pass_quiet, so_far_quiet, turn_quiet}
 use Rattle.px_resend.specs.Dialled.{dials_in}
 use Rattle.px_resend.proofs.OwedLemmas.{is_any}
@@ -111,6 +113,18 @@ coming_not flow (complete head body trailers size) moment used closed = tt
 coming_not flow (bad_head fault) moment used closed = tt
 coming_not flow (bad_body fault head body) moment used closed = tt
 
+-- nor where a request that goes up is found bad first
+bad_not : (item : Item ReadRequest) (ends : Fault → List Command) (found : Look Command) → DialsNot found → DialsNot (bad_or item ends found)
+bad_not missing ends found not = not
+bad_not (part head body) ends found not = not
+bad_not (complete head body trailers size) ends found not = not
+bad_not (bad_head fault) ends found not = not
+bad_not (bad_body fault head body) ends found not = tt
+
+up_not : (how : Sent) (seen : Sight) (ends : Fault → List Command) (found : Look Command) → DialsNot found → DialsNot (look_up how seen ends found)
+up_not all_sent seen ends found not = not
+up_not going_up seen ends found not = bad_not (request_in seen) ends found not
+
 -- what is found over a stage that is not the dialling one
 abbrev FindsNot : Terms → Stage → Sight → Type 0
 FindsNot terms stage seen = DialsNot (look terms stage seen)
@@ -122,11 +136,11 @@ counts_found n (Ends owed) not quiet = let P : List ℕ → Type 0 = CountsFrom 
 
 looks : (terms : Terms) (n : ℕ) (stage : Stage) (seen : Sight) → Dialled n stage → CountsFrom n (dials_in (found (look terms stage seen)))
 looks terms n (idle at) seen is = counts_found n _ (leaves_not _ _ _ (head_not terms at.flow (request_in seen) seen.now (server_parked at.parked seen) seen.closed)) (finds_quiet_end terms (idle at) seen)
-looks terms n (busy at flow (request_body given)) seen is = counts_found n _ (leaves_not _ _ _ (body_not flow _ _ _ _)) (finds_quiet_end terms (busy at flow (request_body given)) seen)
-looks terms n (busy at flow connection) seen is = (is, tt)
-looks terms n (busy at flow (response_head side how)) seen is = counts_found n _ (leaves_not _ _ _ (answer_not flow (answers_in flow.request seen).final seen.now (server_in side seen) seen.closed)) (finds_quiet_end terms (busy at flow (response_head side how)) seen)
-looks terms n (busy at flow (response_body side how most)) seen is = counts_found n _ (leaves_not _ _ _ (returned_not flow _ _ _ _)) (finds_quiet_end terms (busy at flow (response_body side how most)) seen)
-looks terms n (busy at flow (coming_down side how)) seen is = counts_found n _ (leaves_not _ _ _ (coming_not flow (answers_in flow.request seen).final _ _ _)) (finds_quiet_end terms (busy at flow (coming_down side how)) seen)
+looks terms n (busy at flow (request_body given most)) seen is = counts_found n _ (leaves_not _ _ _ (body_not flow _ _ _ _)) (finds_quiet_end terms (busy at flow (request_body given most)) seen)
+looks terms n (busy at flow (connection how)) seen is = (is, tt)
+looks terms n (busy at flow (response_head side how)) seen is = counts_found n _ (leaves_not _ _ _ (up_not how seen _ _ (answer_not flow (answers_in flow.request seen).final seen.now (server_in side seen) seen.closed))) (finds_quiet_end terms (busy at flow (response_head side how)) seen)
+looks terms n (busy at flow (response_body side how most)) seen is = counts_found n _ (leaves_not _ _ _ (up_not how seen _ _ (returned_not flow (answers_in flow.request seen).final seen.now (server_in side seen) seen.closed))) (finds_quiet_end terms (busy at flow (response_body side how most)) seen)
+looks terms n (busy at flow (coming_down side how)) seen is = counts_found n _ (leaves_not _ _ _ (up_not how seen _ _ (coming_not flow (answers_in flow.request seen).final seen.now (server_in side seen) seen.closed))) (finds_quiet_end terms (busy at flow (coming_down side how)) seen)
 looks terms n (busy at flow (upgraded side)) seen is = tt
 looks terms n (busy at flow given_head) seen is = tt
 looks terms n (busy at flow given_body) seen is = tt
@@ -135,16 +149,17 @@ looks terms n over seen is = tt
 
 -- ---- where a stage leads
 
-head_leads : (n : ℕ) (at : At) (flow : Flow) (expected : Bool) (taken : Taken Request) (moment : ℕ) (seen : Sight) → at.dials ≡ n → Dialled n (turn_taken_head at flow expected taken moment seen).stage
-head_leads n at flow expected (GoesOn request) moment seen is = is
-head_leads n at flow expected (Responds response) moment seen is = is
-head_leads n at flow expected Kills moment seen is = tt
+head_leads : (n : ℕ) (at : At) (flow : Flow) (expected : Bool) (most : Option ℕ) (taken : Taken Request) (moment : ℕ) (seen : Sight) → at.dials ≡ n →
+    Dialled n (turn_taken_head at flow expected most taken moment seen).stage
+head_leads n at flow expected most (GoesOn request) moment seen is = is
+head_leads n at flow expected most (Responds response) moment seen is = is
+head_leads n at flow expected most Kills moment seen is = tt
 
 judged_leads : (n : ℕ) (terms : Terms) (at : At) (head : ReadRequest) (j : Judged) (seen : Sight) (answer : Timed Reply) → at.dials ≡ n →
     Dialled n (turn_judged terms at head j seen answer).stage
 judged_leads n terms at head (Refused fault) seen answer is = tt
 judged_leads n terms at head (Connects address) seen answer is = tt
-judged_leads n terms at head (Accepted request) seen answer is = head_leads n at _ _ _ answer.moment seen is
+judged_leads n terms at head (Accepted request) seen answer is = head_leads n at _ _ _ _ answer.moment seen is
 
 item_leads : (n : ℕ) (terms : Terms) (at : At) (item : Item ReadRequest) (seen : Sight) (answer : Timed Reply) → at.dials ≡ n →
     Dialled n (turn_head terms at item seen answer).stage
@@ -174,30 +189,30 @@ body_leads n place at flow (complete head body trailers used) seen answer is =
 body_leads n place at flow (bad_head fault) seen answer is = tt
 body_leads n place at flow (bad_body fault head body) seen answer is = tt
 
-dial_on : (n : ℕ) (place : Place) (at : At) (flow : Flow) (answer : Reply) → at.dials ≡ n → Dialled (n + 1) (dial_leads place at flow answer)
-dial_on n place at flow (reply.Go given stream) is = tt
-dial_on n place at flow (reply.Respond response) is = tt
-dial_on n place at flow reply.Kill is = tt
-dial_on n place at flow reply.Discard is = tt
-dial_on n place at flow reply.Dialled is = ap (λ (k : ℕ). k + 1) is
-dial_on n place at flow (reply.Refused fault) is = tt
+dial_on : (n : ℕ) (place : Place) (at : At) (flow : Flow) (how : Sent) (answer : Reply) → at.dials ≡ n → Dialled (n + 1) (dial_leads place at flow how answer)
+dial_on n place at flow how (reply.Go given stream) is = tt
+dial_on n place at flow how (reply.Respond response) is = tt
+dial_on n place at flow how reply.Kill is = tt
+dial_on n place at flow how reply.Discard is = tt
+dial_on n place at flow how reply.Dialled is = ap (λ (k : ℕ). k + 1) is
+dial_on n place at flow how (reply.Refused fault) is = tt
 
-taken_answer_leads : (n : ℕ) (at : At) (flow : Flow) (side : ℕ) (most : Option ℕ) (taken : Taken Response) (moment : ℕ) (used : Used) (closed : Bool) → at.dials ≡ n →
-    Dialled n (turn_taken_answer at flow side most taken moment used closed).stage
-taken_answer_leads n at flow side most (GoesOn response) moment used closed is = is
-taken_answer_leads n at flow side most (Responds response) moment used closed is = tt
-taken_answer_leads n at flow side most Kills moment used closed is = tt
+taken_answer_leads : (n : ℕ) (at : At) (flow : Flow) (side : ℕ) (how : Sent) (most : Option ℕ) (taken : Taken Response) (moment : ℕ) (used : Used) (closed : Bool) → at.dials ≡ n →
+    Dialled n (turn_taken_answer at flow side how most taken moment used closed).stage
+taken_answer_leads n at flow side how most (GoesOn response) moment used closed is = is
+taken_answer_leads n at flow side how most (Responds response) moment used closed is = tt
+taken_answer_leads n at flow side how most Kills moment used closed is = tt
 
-answer_leads : (terms : Terms) (n : ℕ) (at : At) (flow : Flow) (side : ℕ) (item : Item ReadResponse) (seen : Sight) (answer : Timed Reply) → at.dials ≡ n →
-    Dialled n (turn_answer terms at flow side item seen answer).stage
-answer_leads terms n at flow side missing seen answer is = tt
-answer_leads terms n at flow side (part head body) seen answer is =
-    taken_answer_leads n at (with_answer flow (response_of head) seen.now) side (allowed_by terms.streams answer.value) _ answer.moment _ _ is
-answer_leads terms n at flow side (complete head body trailers size) seen answer is =
-    taken_answer_leads n at (with_answer flow (response_of head) seen.now) side (allowed_by terms.streams answer.value) _ answer.moment _ _ is
-answer_leads terms n at flow side (bad_head fault) seen answer is = tt
-answer_leads terms n at flow side (bad_body fault head body) seen answer is =
-    taken_answer_leads n at (with_answer flow (response_of head) seen.now) side (allowed_by terms.streams answer.value) _ answer.moment _ _ is
+answer_leads : (terms : Terms) (n : ℕ) (at : At) (flow : Flow) (side : ℕ) (how : Sent) (item : Item ReadResponse) (seen : Sight) (answer : Timed Reply) → at.dials ≡ n →
+    Dialled n (turn_answer terms at flow side how item seen answer).stage
+answer_leads terms n at flow side how missing seen answer is = tt
+answer_leads terms n at flow side how (part head body) seen answer is =
+    taken_answer_leads n at (with_answer flow (response_of head) seen.now) side how (allowed_by terms.streams answer.value) _ answer.moment _ _ is
+answer_leads terms n at flow side how (complete head body trailers size) seen answer is =
+    taken_answer_leads n at (with_answer flow (response_of head) seen.now) side how (allowed_by terms.streams answer.value) _ answer.moment _ _ is
+answer_leads terms n at flow side how (bad_head fault) seen answer is = tt
+answer_leads terms n at flow side how (bad_body fault head body) seen answer is =
+    taken_answer_leads n at (with_answer flow (response_of head) seen.now) side how (allowed_by terms.streams answer.value) _ answer.moment _ _ is
 
 behind : (n : ℕ) (stays : Bool) (at : At) → at.dials ≡ n → Dialled n (behind_flow stays at)
 behind n true at is = is
@@ -215,26 +230,26 @@ response_leads n None takes goes leads = tt
 response_leads n (Some response) takes goes leads = leads (takes response)
 
 -- behind a response of code 101 HTTP has ended
-finish_leads : (n : ℕ) (switches : Bool) (at : At) (flow : Flow) (response : Response) (side : ℕ) (used : Used) (closed : Bool) → at.dials ≡ n →
-    Dialled n (finish_by switches at flow response side used closed).stage
-finish_leads n true at flow response side used closed is = is
-finish_leads n false at flow response side used closed is = behind n _ (unparked at) is
+finish_leads : (n : ℕ) (switches : Bool) (at : At) (flow : Flow) (how : Sent) (response : Response) (side : ℕ) (used : Used) (closed : Bool) → at.dials ≡ n →
+    Dialled n (finish_by switches at flow how response side used closed).stage
+finish_leads n true at flow how response side used closed is = is
+finish_leads n false at flow how response side used closed is = behind n _ (unparked at) is
 
-taken_whole_leads : (n : ℕ) (at : At) (flow : Flow) (side : ℕ) (taken : Taken Response) (moment : ℕ) (used : Used) (closed : Bool) → at.dials ≡ n →
-    Dialled n (turn_taken_whole at flow side taken moment used closed).stage
-taken_whole_leads n at flow side (GoesOn response) moment used closed is = finish_leads n (response.status == 101) at flow response side used closed is
-taken_whole_leads n at flow side (Responds response) moment used closed is = tt
-taken_whole_leads n at flow side Kills moment used closed is = tt
+taken_whole_leads : (n : ℕ) (at : At) (flow : Flow) (side : ℕ) (how : Sent) (taken : Taken Response) (moment : ℕ) (used : Used) (closed : Bool) → at.dials ≡ n →
+    Dialled n (turn_taken_whole at flow side how taken moment used closed).stage
+taken_whole_leads n at flow side how (GoesOn response) moment used closed is = finish_leads n (is_sent how && response.status == 101) at flow how response side used closed is
+taken_whole_leads n at flow side how (Responds response) moment used closed is = tt
+taken_whole_leads n at flow side how Kills moment used closed is = tt
 
-returned_leads : (n : ℕ) (at : At) (flow : Flow) (side : ℕ) (item : Item ReadResponse) (seen : Sight) (answer : Timed Reply) → at.dials ≡ n →
-    Dialled n (turn_returned at flow side item seen answer).stage
-returned_leads n at flow side missing seen answer is = tt
-returned_leads n at flow side (part head body) seen answer is = tt
-returned_leads n at flow side (complete head body trailers size) seen answer is =
+returned_leads : (n : ℕ) (at : At) (flow : Flow) (side : ℕ) (how : Sent) (item : Item ReadResponse) (seen : Sight) (answer : Timed Reply) → at.dials ≡ n →
+    Dialled n (turn_returned at flow side how item seen answer).stage
+returned_leads n at flow side how missing seen answer is = tt
+returned_leads n at flow side how (part head body) seen answer is = tt
+returned_leads n at flow side how (complete head body trailers size) seen answer is =
     response_leads n (with_returned flow body.content trailers seen.now).response _ _
-    (λ taken. taken_whole_leads n at (with_returned flow body.content trailers seen.now) side taken answer.moment _ _ is)
-returned_leads n at flow side (bad_head fault) seen answer is = tt
-returned_leads n at flow side (bad_body fault head body) seen answer is = tt
+    (λ taken. taken_whole_leads n at (with_returned flow body.content trailers seen.now) side how taken answer.moment _ _ is)
+returned_leads n at flow side how (bad_head fault) seen answer is = tt
+returned_leads n at flow side how (bad_body fault head body) seen answer is = tt
 
 taken_given_leads : (n : ℕ) (at : At) (flow : Flow) (taken : Taken Response) (moment : ℕ) (parked : Used) (closed : Bool) → at.dials ≡ n →
     Dialled n (turn_taken_given at flow taken moment parked closed).stage
@@ -249,36 +264,79 @@ onward n (busy at flow doing) is = is
 onward n (next at) is = is
 onward n over is = is
 
-passed_body : (n : ℕ) (at : At) (flow : Flow) (given : Option Response) (item : Item ReadRequest) (now : ℕ) → at.dials ≡ n → Dialled n (pass_body at flow given item now)
-passed_body n at flow None item now is = is
-passed_body n at flow (Some response) missing now is = is
-passed_body n at flow (Some response) (part head body) now is = is
-passed_body n at flow (Some response) (complete head body trailers used) now is = is
-passed_body n at flow (Some response) (bad_head fault) now is = is
-passed_body n at flow (Some response) (bad_body fault head body) now is = is
+-- a request that goes up goes to a parked side, or its server is dialled
+goes_up_leads : (n : ℕ) (side : Option ℕ) (place : Place) (at : At) (flow : Flow) → at.dials ≡ n → Dialled n (goes_up_by side place at flow)
+goes_up_leads n None place at flow is = is
+goes_up_leads n (Some side) place at flow is = is
+
+passed_going : (n : ℕ) (goes : Bool) (place : Place) (at : At) (flow : Flow) (most : Option ℕ) → at.dials ≡ n → Dialled n (pass_going goes place at flow most)
+passed_going n true place at flow most is = goes_up_leads n (parked_for place flow.request at.parked) place at (sending_on flow) is
+passed_going n false place at flow most is = is
+
+passed_given : (n : ℕ) (at : At) (flow : Flow) (response : Response) (most : Option ℕ) (item : Item ReadRequest) (now : ℕ) → at.dials ≡ n → Dialled n (pass_given at flow response most item now)
+passed_given n at flow response most missing now is = is
+passed_given n at flow response most (part head body) now is = is
+passed_given n at flow response most (complete head body trailers used) now is = is
+passed_given n at flow response most (bad_head fault) now is = is
+passed_given n at flow response most (bad_body fault head body) now is = is
+
+passed_body : (n : ℕ) (place : Place) (at : At) (flow : Flow) (given : Option Response) (most : Option ℕ) (seen : Sight) → at.dials ≡ n → Dialled n (pass_body place at flow given most seen)
+passed_body n place at flow None most seen is = passed_going n (begins_going place at flow most seen) place at flow most is
+passed_body n place at flow (Some response) most seen is = passed_given n at flow response most (request_in seen) seen.now is
+
+begun : (n : ℕ) (terms : Terms) (stage : Stage) (seen : Sight) → Dialled n stage → Dialled n (begin_up terms stage seen)
+begun n terms (idle at) seen is = is
+begun n terms (busy at flow (request_body given most)) seen is = passed_body n terms.place at flow given most seen is
+begun n terms (busy at flow (connection how)) seen is = is
+begun n terms (busy at flow (response_head side how)) seen is = is
+begun n terms (busy at flow (response_body side how most)) seen is = is
+begun n terms (busy at flow (coming_down side how)) seen is = is
+begun n terms (busy at flow (upgraded side)) seen is = is
+begun n terms (busy at flow given_head) seen is = is
+begun n terms (busy at flow given_body) seen is = is
+begun n terms (next at) seen is = is
+begun n terms over seen is = is
+
+-- one that is whole
+ended_by : (n : ℕ) (going : Option ℕ) (place : Place) (at : At) (flow : Flow) (doing : Doing) (seen : Sight) → at.dials ≡ n → Dialled n (end_by going place at flow doing seen).stage
+ended_by n None place at flow doing seen is = is
+ended_by n (Some side) place at flow doing seen is = is
+
+ended : (n : ℕ) (terms : Terms) (stage : Stage) (seen : Sight) → Dialled n stage → Dialled n (end_up terms stage seen).stage
+ended n terms (idle at) seen is = is
+ended n terms (busy at flow doing) seen is = ended_by n (gone_by (going_at doing) (whole_in seen)) terms.place at flow doing seen is
+ended n terms (next at) seen is = is
+ended n terms over seen is = is
 
 -- a streamed response that is whole
-passed_came : (n : ℕ) (at : At) (flow : Flow) (side : ℕ) (how : Sent) (seen : Sight) (came : Option Came) → at.dials ≡ n → Dialled n (pass_came at flow side how seen came).stage
-passed_came n at flow side how seen None is = is
-passed_came n at flow side how seen (Some came) is = behind n (goes_on_behind at.flow flow.request came) (unparked at) is
+passed_came : (n : ℕ) (place : Place) (at : At) (flow : Flow) (side : ℕ) (how : Sent) (seen : Sight) (came : Option Came) → at.dials ≡ n →
+    Dialled n (pass_came place at flow side how seen came).stage
+passed_came n place at flow side how seen None is = is
+passed_came n place at flow side how seen (Some came) is = behind n (is_sent how && goes_on_behind at.flow flow.request came) (unparked at) is
 
-passed_kept : (n : ℕ) (streams : Bool) (at : At) (flow : Flow) (side : ℕ) (how : Sent) (most : Option ℕ) (seen : Sight) → at.dials ≡ n →
-    Dialled n (pass_kept streams at flow side how most seen).stage
-passed_kept n true at flow side how most seen is = passed_came n at (streaming flow) side how seen (came_in (streaming flow) seen) is
-passed_kept n false at flow side how most seen is = is
+passed_kept : (n : ℕ) (streams : Bool) (place : Place) (at : At) (flow : Flow) (side : ℕ) (how : Sent) (most : Option ℕ) (seen : Sight) → at.dials ≡ n →
+    Dialled n (pass_kept streams place at flow side how most seen).stage
+passed_kept n true place at flow side how most seen is = passed_came n place at (streaming flow) side how seen (came_in (streaming flow) seen) is
+passed_kept n false place at flow side how most seen is = is
 
-passed : (n : ℕ) (stage : Stage) (seen : Sight) → Dialled n stage → Dialled n (pass stage seen).stage
-passed n (idle at) seen is = is
-passed n (busy at flow (request_body given)) seen is = passed_body n at flow given (request_in seen) seen.now is
-passed n (busy at flow connection) seen is = is
-passed n (busy at flow (response_head side how)) seen is = is
-passed n (busy at flow (response_body side how most)) seen is = passed_kept n (streams_in flow most seen) at flow side how most seen is
-passed n (busy at flow (coming_down side how)) seen is = passed_came n at flow side how seen (came_in flow seen) is
-passed n (busy at flow (upgraded side)) seen is = is
-passed n (busy at flow given_head) seen is = is
-passed n (busy at flow given_body) seen is = is
-passed n (next at) seen is = is
-passed n over seen is = is
+came : (n : ℕ) (terms : Terms) (stage : Stage) (seen : Sight) → Dialled n stage → Dialled n (come_down terms stage seen).stage
+came n terms (idle at) seen is = is
+came n terms (busy at flow (request_body given most)) seen is = is
+came n terms (busy at flow (connection how)) seen is = is
+came n terms (busy at flow (response_head side how)) seen is = is
+came n terms (busy at flow (response_body side how most)) seen is = passed_kept n (streams_in flow most seen) terms.place at flow side how most seen is
+came n terms (busy at flow (coming_down side how)) seen is = passed_came n terms.place at flow side how seen (came_in flow seen) is
+came n terms (busy at flow (upgraded side)) seen is = is
+came n terms (busy at flow given_head) seen is = is
+came n terms (busy at flow given_body) seen is = is
+came n terms (next at) seen is = is
+came n terms over seen is = is
+
+passed : (terms : Terms) (n : ℕ) (stage : Stage) (seen : Sight) → Dialled n stage → Dialled n (pass terms stage seen).stage
+passed terms n stage seen is =
+    let seen_then : Sight = sight_begun stage seen in
+    came n terms (end_up terms (begin_up terms stage seen) seen_then).stage (sight_gone terms stage seen)
+    (ended n terms (begin_up terms stage seen) seen_then (begun n terms stage seen is))
 
 -- a hook that was asked dials nothing
 asked_not : (l : Look Command) (ask : Command) → l ≡ Asks ask → DialsNot l → dials_in (ask ∷ []) ≡ []
@@ -287,19 +345,19 @@ asked_not l ask is not = let P : Look Command → Type 0 = DialsNot in subst P i
 stays : (n : ℕ) (stage : Stage) (ask : Command) → dials_in (ask ∷ []) ≡ [] → Dialled n stage → Dialled (n + length (dials_in (ask ∷ []))) stage
 stays n stage ask none is = let P : List ℕ → Type 0 = λ l. Dialled (n + length l) stage in let Q : ℕ → Type 0 = λ k. Dialled k stage in let same : n + 0 ≡ n = omega arith in subst P (sym none) (subst Q (sym same) is)
 
-dial_asked : (at : At) (flow : Flow) (seen : Sight) (terms : Terms) (ask : Command) → look terms (busy at flow connection) seen ≡ Asks ask → length (dials_in (ask ∷ [])) ≡ 1
-dial_asked at flow seen terms ask is = let P : Look Command → Type 0 = λ l. length (dials_in (found l)) ≡ 1 in subst P is refl
+dial_asked : (at : At) (flow : Flow) (how : Sent) (seen : Sight) (terms : Terms) (ask : Command) → look terms (busy at flow (connection how)) seen ≡ Asks ask → length (dials_in (ask ∷ [])) ≡ 1
+dial_asked at flow how seen terms ask is = let P : Look Command → Type 0 = λ l. length (dials_in (found l)) ≡ 1 in subst P is refl
 
 turns : (terms : Terms) (n : ℕ) (stage : Stage) (seen : Sight) (ask : Command) (answer : Timed Reply) → Dialled n stage → look terms stage seen ≡ Asks ask →
     Dialled (n + length (dials_in (ask ∷ []))) (turn terms stage seen answer).stage
 turns terms n (idle at) seen ask answer is asks = stays n _ ask (asked_not _ ask asks (leaves_not _ _ _ (head_not terms at.flow (request_in seen) seen.now (server_parked at.parked seen) seen.closed))) (item_leads n terms at (request_in seen) seen answer is)
-turns terms n (busy at flow (request_body given)) seen ask answer is asks = stays n _ ask (asked_not _ ask asks (leaves_not _ _ _ (body_not flow _ _ _ _))) (body_leads n terms.place at flow (request_in seen) seen answer is)
-turns terms n (busy at flow connection) seen ask answer is asks =
-    let P : ℕ → Type 0 = λ k. Dialled (n + k) (dial_leads terms.place at flow answer.value) in
-    subst P (sym (dial_asked at flow seen terms ask asks)) (dial_on n terms.place at flow answer.value is)
-turns terms n (busy at flow (response_head side how)) seen ask answer is asks = stays n _ ask (asked_not _ ask asks (leaves_not _ _ _ (answer_not flow (answers_in flow.request seen).final seen.now (server_in side seen) seen.closed))) (answer_leads terms n at flow side (answers_in flow.request seen).final seen answer is)
+turns terms n (busy at flow (request_body given most)) seen ask answer is asks = stays n _ ask (asked_not _ ask asks (leaves_not _ _ _ (body_not flow _ _ _ _))) (body_leads n terms.place at flow (request_in seen) seen answer is)
+turns terms n (busy at flow (connection how)) seen ask answer is asks =
+    let P : ℕ → Type 0 = λ k. Dialled (n + k) (dial_leads terms.place at flow how answer.value) in
+    subst P (sym (dial_asked at flow how seen terms ask asks)) (dial_on n terms.place at flow how answer.value is)
+turns terms n (busy at flow (response_head side how)) seen ask answer is asks = stays n _ ask (asked_not _ ask asks (leaves_not _ _ _ (up_not how seen _ _ (answer_not flow (answers_in flow.request seen).final seen.now (server_in side seen) seen.closed)))) (answer_leads terms n at flow side how (answers_in flow.request seen).final seen answer is)
 turns terms n (busy at flow (coming_down side how)) seen ask answer is asks = tt
-turns terms n (busy at flow (response_body side how most)) seen ask answer is asks = stays n _ ask (asked_not _ ask asks (leaves_not _ _ _ (returned_not flow _ _ _ _))) (returned_leads n at flow side (answers_in flow.request seen).final seen answer is)
+turns terms n (busy at flow (response_body side how most)) seen ask answer is asks = stays n _ ask (asked_not _ ask asks (leaves_not _ _ _ (up_not how seen _ _ (returned_not flow (answers_in flow.request seen).final seen.now (server_in side seen) seen.closed)))) (returned_leads n at flow side how (answers_in flow.request seen).final seen answer is)
 turns terms n (busy at flow (upgraded side)) seen ask answer is asks = tt
 turns terms n (busy at flow given_head) seen ask answer is asks =
     stays n _ ask (asked_not (look terms (busy at flow given_head) seen) ask asks refl) (response_leads n flow.response _ _
@@ -318,10 +376,10 @@ pub counts : (terms : Terms) → CountsDials (http_chain sequence terms) Dialled
 counts terms = record {
   pass = λ n place prefix is.
       let seen : Sight = sight_over place prefix in (
-        quiet_dials any_flow (pass place.stage seen).owed (pass_quiet terms any_flow place.stage seen (is_any terms place.stage)),
-        onward n (pass place.stage seen).stage (passed n place.stage seen is),
+        quiet_dials any_flow (pass terms place.stage seen).owed (pass_quiet terms any_flow place.stage seen (is_any terms place.stage)),
+        onward n (pass terms place.stage seen).stage (passed terms n place.stage seen is),
       );
-  so_far = λ place prefix. quiet_dials any_flow (so_far place.stage (sight_over place prefix)) (so_far_quiet any_flow place.stage (sight_over place prefix));
+  so_far = λ place prefix. quiet_dials any_flow (so_far terms place.stage (sight_over place prefix)) (so_far_quiet any_flow terms place.stage (sight_over place prefix));
   behind = λ place prefix. quiet_dials any_flow (behind_ask place.stage (sight_over place prefix)) (behind_quiet any_flow place.stage (sight_over place prefix));
   look = λ n place prefix is. looks terms n place.stage (sight_over place prefix) is;
   turn = λ n place prefix ask answer is asks.

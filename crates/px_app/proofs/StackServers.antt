@@ -20,7 +20,7 @@ use Rattle.px_exchange.specs.declared.ending.Used.{Used}
 use Rattle.px_exchange.specs.declared.ending.Used.TheVariants.{NoServer, ByServer}
 use Rattle.px_chain.specs.Chain.{Connect, connect_in, look as look_of}
 use Rattle.px_chain.specs.Sights.{Sight, Standing, request_in, sight_over}
-use Rattle.px_chain.specs.Stages.{At, busy, coming_down, connection, given_body, given_head, idle, next, request_body, response_body, response_head, upgraded}
+use Rattle.px_chain.specs.Stages.{At, Sent, all_sent, busy, coming_down, connection, given_body, given_head, going_up, idle, next, request_body, response_body, response_head, upgraded}
 use Rattle.px_chain.specs.Stages as flows
 use Rattle.px_chain.specs.Streams.{Since, client_closed, from_here, now_over}
 use Rattle.px_tunnel.specs.Upstream.{Granting, awaited, granted, refused}
@@ -28,12 +28,13 @@ use Rattle.px_relay.specs.Chain as relay
 use Rattle.px_relay.specs.Sending.{Terms}
 use Rattle.px_relay.specs.Sights.{Sight as SocketSight}
 use Rattle.px_relay.specs.Stages.{Stage as Frames, holding, over as ended, relaying}
-use Rattle.px_stack.specs.Chain.{answer_of, begins, begun, closed_before, closes_all, finished_flow, flows_at, follows, goes_by, hands_by, has_answered, is_shut, led_at, led_by, opening_look, opening_text, or_stays, pass_http, pass_reached, pass_socket, raw_look, socket_sight, socket_terms, stack_chain, tunnel_for, tunnel_found, turn_connected, turn_dial, turn_http, upgrades, used_proxy, way_to}
+use Rattle.px_stack.specs.Chain.{answer_of, begins, begun, closed_before, closes_all, connected_on, finished_flow, flows_at, follows, goes_by, hands_by, has_answered, is_shut, led_at, led_by, opening_look, opening_text, or_stays, pass_flows, pass_http, pass_reached, pass_socket, raw_look, socket_sight, socket_terms, stack_chain, tunnel_for, tunnel_found, turn_connected, turn_dial, turn_http, upgrades, used_proxy, way_to}
 use Rattle.px_stack.specs.Decides.{Decision, decided, is_http, is_raw, still}
 use Rattle.px_stack.specs.Frames.{AreSaid, pass_says, turn_says}
 use Rattle.px_stack.specs.Modes.{mode_due}
 use Rattle.px_stack.specs.Sockets.{is_websocket}
 use Rattle.px_stack.specs.Stages.{Dialling, Ends as TunnelEnds, Goal, Link, Stage, Tunnel, Visitor, a_flow, a_tunnel, connecting, http, over, raw, reaching, socket, undecided}
+use Rattle.px_stream.specs.Anywhere.{reached_owes}
 use Rattle.px_resend.specs.Dialled.{dials_in}
 use Rattle.px_app.specs.Servers.{CountsFrom}
 use Rattle.px_app.proofs.HttpServers.{Dialled, DialledAt, counts as flows_count}
@@ -92,6 +93,11 @@ frames_none terms (relaying at) = refl
 frames_none terms (holding from message at) = refl
 frames_none terms ended = refl
 
+-- a flow that is connected through another proxy dials nothing more
+reached_none : (how : Sent) (place : Place) (flow : Flow) (server : ℕ) → dials_in (reached_owes how place flow server) ≡ []
+reached_none all_sent place flow server = refl
+reached_none going_up place flow server = refl
+
 -- a list of no dials counts from anywhere
 counts_none : (n : ℕ) (list : List Command) → dials_in list ≡ [] → CountsFrom n (dials_in list)
 counts_none n list none = let P : List ℕ → Type 0 = CountsFrom n in subst P (sym none) tt
@@ -111,8 +117,8 @@ module _ (conv : ℕ) (client : Visitor) where
   hands_dialled : (n : ℕ) (place : Place) (standing : Standing) (stage : flows.Stage) (seen : Sight) → DialledAt n standing → Dialled n stage →
       DialledSo n (or_stays (http place standing) (hands_by place standing stage seen))
   hands_dialled n place standing (idle at) seen is here = tunnel_dialled n place standing standing.used.client at (connect_in place (request_in seen)) is here
-  hands_dialled n place standing (busy at flow (request_body given)) seen is here = is
-  hands_dialled n place standing (busy at flow connection) seen is here = is
+  hands_dialled n place standing (busy at flow (request_body given most)) seen is here = is
+  hands_dialled n place standing (busy at flow (connection how)) seen is here = is
   hands_dialled n place standing (busy at flow (response_head side how)) seen is here = is
   hands_dialled n place standing (busy at flow (response_body side how most)) seen is here = is
   hands_dialled n place standing (busy at flow (coming_down side how)) seen is here = is
@@ -135,17 +141,6 @@ module _ (conv : ℕ) (client : Visitor) where
   goes_dialled n true tunnel link since prefix is = is
   goes_dialled n false tunnel link since prefix is = follows_dialled n (decided (opening_text tunnel prefix) (has_answered link prefix)) tunnel link since is
 
-  -- ---- another proxy, which has answered
-
-  reached_dialled : (n : ℕ) (goal : Goal) (link : Link) (since : Since) (prefix : List (Timed Event)) (g : Granting) → DialledFor n goal →
-      (dials_in (pass_reached conv client goal link since prefix g).owed ≡ []) × DialledSo n (pass_reached conv client goal link since prefix g).stage
-  reached_dialled n goal link since prefix awaited is = (refl, is)
-  reached_dialled n (a_tunnel tunnel) link since prefix (granted used) is =
-      (refl, goes_dialled n (client_closed prefix) tunnel (way_to link used prefix) (from_here (now_over since prefix) prefix) prefix is)
-  reached_dialled n (a_flow place from) link since prefix (granted used) is = (refl, is)
-  reached_dialled n (a_tunnel tunnel) link since prefix refused is = (all_none (used_proxy link prefix) (closed_before link prefix), tt)
-  reached_dialled n (a_flow place from) link since prefix refused is = (all_none (used_proxy link prefix) (closed_before link prefix), tt)
-
   -- a WebSocket
   socket_none : (ends : TunnelEnds) (flow : Flow) (frames : Frames) (prefix : List (Timed Event)) → dials_in (pass_socket conv client ends flow frames prefix).owed ≡ []
   socket_none ends flow frames prefix =
@@ -163,14 +158,33 @@ module _ (conv : ℕ) (client : Visitor) where
   begun_dialled n (socket ends flow frames) prefix is = (socket_none ends flow frames prefix, tt)
   begun_dialled n over prefix is = (refl, tt)
 
-  passes : (n : ℕ) (stage : Stage) (prefix : List (Timed Event)) → DialledSo n stage →
-      (dials_in ((stack_chain conv client).pass stage prefix).owed ≡ []) × DialledSo n ((stack_chain conv client).pass stage prefix).stage
-  passes n (http place standing) prefix is =
+  -- HTTP passes on, and what follows it begins
+  flows_pass : (n : ℕ) (place : Place) (standing : Standing) (prefix : List (Timed Event)) → DialledAt n standing →
+      (dials_in (pass_flows conv client place standing prefix).owed ≡ []) × DialledSo n (pass_flows conv client place standing prefix).stage
+  flows_pass n place standing prefix is =
       let on = (flows_at conv client place).pass standing prefix in
       let knows = (flows_counts place).pass n standing prefix is in
       let to : Stage = pass_http conv client place on.stage prefix in
       let further = begun_dialled n to prefix (hands_dialled n place on.stage on.stage.stage (sight_over on.stage prefix) knows.1 knows.1) in
       (none_both on.owed (begun conv client to prefix).owed knows.0 further.0, further.1)
+
+  -- ---- another proxy, which has answered
+
+  reached_dialled : (n : ℕ) (goal : Goal) (link : Link) (since : Since) (prefix : List (Timed Event)) (g : Granting) → DialledFor n goal →
+      (dials_in (pass_reached conv client goal link since prefix g).owed ≡ []) × DialledSo n (pass_reached conv client goal link since prefix g).stage
+  reached_dialled n goal link since prefix awaited is = (refl, is)
+  reached_dialled n (a_tunnel tunnel) link since prefix (granted used) is =
+      (refl, goes_dialled n (client_closed prefix) tunnel (way_to link used prefix) (from_here (now_over since prefix) prefix) prefix is)
+  reached_dialled n (a_flow place from) link since prefix (granted used) is =
+      let to : Standing = connected_on place from (way_to link used prefix) (from_here (now_over since prefix) prefix) in
+      let on = flows_pass n place to prefix is in
+      (none_both (reached_owes from.sent place from.flow link.server) (pass_flows conv client place to prefix).owed (reached_none from.sent place from.flow link.server) on.0, on.1)
+  reached_dialled n (a_tunnel tunnel) link since prefix refused is = (all_none (used_proxy link prefix) (closed_before link prefix), tt)
+  reached_dialled n (a_flow place from) link since prefix refused is = (all_none (used_proxy link prefix) (closed_before link prefix), tt)
+
+  passes : (n : ℕ) (stage : Stage) (prefix : List (Timed Event)) → DialledSo n stage →
+      (dials_in ((stack_chain conv client).pass stage prefix).owed ≡ []) × DialledSo n ((stack_chain conv client).pass stage prefix).stage
+  passes n (http place standing) prefix is = flows_pass n place standing prefix is
   passes n (connecting tunnel) prefix is = (refl, is)
   passes n (reaching goal link since) prefix is = reached_dialled n goal link since prefix (answer_of link prefix) is
   passes n (undecided tunnel link since) prefix is = (refl, goes_dialled n (client_closed prefix) tunnel link since prefix is)
@@ -257,8 +271,8 @@ module _ (conv : ℕ) (client : Visitor) where
   led_is_by : (n : ℕ) (place : Place) (standing : Standing) (prefix : List (Timed Event)) (stage : flows.Stage) → standing.stage ≡ stage → Dialled n stage →
       IsLed n place standing prefix (led_by standing.used.client stage)
   led_is_by n place standing prefix (idle at) is here = tt
-  led_is_by n place standing prefix (busy at flow (request_body given)) is here = tt
-  led_is_by n place standing prefix (busy at flow connection) is here = (here, ap (λ s. look_of (terms_of conv client.address place) s (sight_over standing prefix)) is)
+  led_is_by n place standing prefix (busy at flow (request_body given most)) is here = tt
+  led_is_by n place standing prefix (busy at flow (connection how)) is here = (here, ap (λ s. look_of (terms_of conv client.address place) s (sight_over standing prefix)) is)
   led_is_by n place standing prefix (busy at flow (response_head side how)) is here = tt
   led_is_by n place standing prefix (busy at flow (response_body side how most)) is here = tt
   led_is_by n place standing prefix (busy at flow (coming_down side how)) is here = tt

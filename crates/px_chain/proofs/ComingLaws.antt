@@ -1,28 +1,32 @@
 -- A response that is streamed is sent as it comes: what its stage owes the client, where it passes and while it waits, is its text.
 use Rattle.std.proofs.Common.{◌≡◌, ℕ, Bool, true, false, List, [], ◌∷◌, ◌++◌, Option, Some, None, refl, ap, sym, ◌∙◌, subst, append_assoc, drop, length}
-use Rattle.std.specs.Prelude.{map}
+use Rattle.std.specs.Prelude.{◌&&◌, map}
 use Rattle.std.proofs.lemmas.List.{append-nil, map-append}
+use Rattle.px_message.specs.declared.fault.Fault.{Fault}
 use Rattle.px_message.specs.declared.flow.Flow.{Flow}
 use Rattle.px_event.specs.declared.command.Command.{Command}
 use Rattle.px_event.specs.declared.command.Command.TheVariants as commands
 use Rattle.px_event.specs.declared.side.Side.TheVariants.{Client, Server}
-use Rattle.px_event.specs.Chain.{NotYet, Asks, Ends}
+use Rattle.px_event.specs.Chain.{Look, NotYet, Asks, Ends, Turn}
 use Rattle.px_event.specs.View.{byte, bytes_in, line, seen_of, Atom, View, course, flows, order, questions}
 use Rattle.px_event.proofs.LineLemmas.{bytes_alone, bytes_join}
 use Rattle.px_event.proofs.Seen.{seen_append}
 use Rattle.px_read.specs.Items.{Item, missing, part, complete, bad_head, bad_body, Body}
+use Rattle.px_read.specs.declared.head.RequestHead.{RequestHead as ReadRequest}
 use Rattle.px_read.specs.declared.head.ResponseHead.{ResponseHead as ReadResponse}
 use Rattle.px_write.specs.Error.{fault_message}
 use Rattle.px_exchange.specs.declared.ending.Used.{Used}
 use Rattle.px_exchange.specs.declared.ending.Used.TheVariants.{NoServer, ByServer}
+use Rattle.px_exchange.specs.declared.place.Place.{Place}
 use Rattle.px_exchange.specs.declared.terms.Terms.{Terms}
 use Rattle.px_exchange.specs.Endings.{closed_message, ends_early, shut_all, shut_client, shut_server, shut_unless}
 use Rattle.px_exchange.specs.Finds.{or_leaves}
 use Rattle.px_exchange.specs.Flows.{with_end}
-use Rattle.px_chain.specs.Chain.{behind_flow, goes_to, look, look_coming, pass, pass_came, pass_kept, past_came, sight_past, so_far}
+use Rattle.px_chain.specs.Chain.{bad_or, behind_flow, goes_to, look, look_coming, look_up, pass, pass_came, pass_kept, past_came, past_gone, sight_past, so_far}
+use Rattle.px_chain.specs.Going.{is_sent, sends_going, sends_up, whole_in, with_whole}
 use Rattle.px_chain.specs.Coming.{Came, came_in, coming_text, finished_coming, goes_on_behind, streaming, streams_in, coming_by, framed_as, sends_coming}
-use Rattle.px_chain.specs.Sights.{Sight, answers_in, server_in}
-use Rattle.px_chain.specs.Stages.{At, Sent, Stage, busy, coming_down, response_body, unparked}
+use Rattle.px_chain.specs.Sights.{Sight, answers_in, request_in, server_in}
+use Rattle.px_chain.specs.Stages.{At, Sent, Stage, all_sent, busy, coming_down, going_up, over, response_body, unparked}
 use Rattle.px_message.specs.Settle.{StreamedIsFramedAsRead}
 use Rattle.px_message.specs.declared.response.Response.{Response}
 use Rattle.px_read.specs.Laws.{head_in}
@@ -33,13 +37,13 @@ use Rattle.px_parts.proofs.ReadBackLemmas.{response-same, status_small}
 use Rattle.px_chain.specs.ReadBack.{MayPass, ReadsAs}
 use Rattle.std.proofs.Math.Seq.{drop-append_seam}
 use Rattle.px_text.specs.Prefix.{IsPrefixOf}
-use Rattle.px_chain.proofs.ChainLaws.{HearsOn, coming_text_grows}
+use Rattle.px_chain.proofs.ChainLaws.{HearsOn, behind_turn, coming_text_grows, leaves_by, passes_by}
 
 -- the bytes that are sent to the client
 abbrev pub to_client : List Command → List ℕ
 to_client owed = bytes_in (seen_of (line Client) owed)
 
-client_join : (xs ys : List Command) → to_client (xs ++ ys) ≡ to_client xs ++ to_client ys
+pub client_join : (xs ys : List Command) → to_client (xs ++ ys) ≡ to_client xs ++ to_client ys
 client_join xs ys = ap bytes_in (seen_append (line Client) xs ys) ∙ bytes_join (seen_of (line Client) xs) (seen_of (line Client) ys)
 
 both_none : (xs ys : List Command) → to_client xs ≡ [] → to_client ys ≡ [] → to_client (xs ++ ys) ≡ []
@@ -76,39 +80,76 @@ one_text text rest none =
     ∙ (append-nil (to_client (commands.Send Client text ∷ []))
     ∙ (ap bytes_in (append-nil (map byte text)) ∙ bytes_alone text)))
 
-behind_owes : (stays : Bool) (at : At) (seen : Sight) → so_far (behind_flow stays at) seen ≡ []
-behind_owes true at seen = refl
-behind_owes false at seen = refl
+pub behind_owes : (terms : Terms) (stays : Bool) (at : At) (seen : Sight) → so_far terms (behind_flow stays at) seen ≡ []
+behind_owes terms true at seen = refl
+behind_owes terms false at seen = refl
 
-came_owes : (at : At) (flow : Flow) (side : ℕ) (how : Sent) (seen : Sight) (came : Option Came) →
-    to_client ((pass_came at flow side how seen came).owed ++ so_far (pass_came at flow side how seen came).stage (past_came came seen)) ≡ coming_text flow seen
-came_owes at flow side how seen None = one_text (coming_text flow seen) [] refl
-came_owes at flow side how seen (Some came) =
-    let stays : Bool = goes_on_behind at.flow flow.request came in
+-- what its server is sent of its request
+up_none : (place : Place) (flow : Flow) (side : ℕ) (how : Sent) (seen : Sight) → to_client (sends_up place flow side how seen) ≡ []
+up_none place flow side all_sent seen = refl
+up_none place flow side going_up seen = refl
+
+behind_none : (xs ys : List Command) → to_client xs ≡ [] → to_client (xs ++ ys) ≡ to_client ys
+behind_none xs ys unsaid = client_join xs ys ∙ ap (λ l. l ++ to_client ys) unsaid
+
+came_owes : (terms : Terms) (at : At) (flow : Flow) (side : ℕ) (how : Sent) (seen : Sight) (came : Option Came) →
+    to_client ((pass_came terms.place at flow side how seen came).owed ++ so_far terms (pass_came terms.place at flow side how seen came).stage (past_came came seen)) ≡ coming_text flow seen
+came_owes terms at flow side how seen None =
+    behind_none (sends_up terms.place flow side how seen) (sends_coming flow seen) (up_none terms.place flow side how seen) ∙ one_text (coming_text flow seen) [] refl
+came_owes terms at flow side how seen (Some came) =
+    let stays : Bool = is_sent how && goes_on_behind at.flow flow.request came in
     let closes : List Command = commands.Done (with_end flow seen.now) ∷ shut_server (server_in side seen) in
+    let up : List Command = sends_up terms.place flow side how seen in
     let owed : List Command = finished_coming flow seen (server_in side seen) ++ shut_unless stays NoServer seen.closed in
-    ap (λ l. to_client (owed ++ l)) (behind_owes stays (unparked at) (past_came (Some came) seen))
-    ∙ (ap to_client (append-nil owed)
+    ap (λ l. to_client ((up ++ owed) ++ l)) (behind_owes terms stays (unparked at) (past_came (Some came) seen))
+    ∙ (ap to_client (append-nil (up ++ owed))
+    ∙ (behind_none up owed (up_none terms.place flow side how seen)
     ∙ one_text (coming_text flow seen) (closes ++ shut_unless stays NoServer seen.closed)
-    (both_none closes (shut_unless stays NoServer seen.closed) (server_none (server_in side seen)) (unless_none stays NoServer seen.closed)))
+    (both_none closes (shut_unless stays NoServer seen.closed) (server_none (server_in side seen)) (unless_none stays NoServer seen.closed))))
+
+-- so is it where its request is whole or not
+coming_owes : (size : Option ℕ) (terms : Terms) (at : At) (flow : Flow) (side : ℕ) (how : Sent) (seen : Sight) →
+    let on = passes_by size terms at flow (coming_down side how) seen in
+    to_client (on.owed ++ so_far terms on.stage (leaves_by size terms at flow (coming_down side how) seen)) ≡ coming_text flow seen
+coming_owes size terms at flow side all_sent seen = came_owes terms at flow side all_sent seen (came_in flow seen)
+coming_owes None terms at flow side going_up seen = came_owes terms at flow side going_up seen (came_in flow seen)
+coming_owes (Some n) terms at flow side going_up seen =
+    let whole : Flow = with_whole flow seen.now in
+    let left : Sight = past_gone (Some side) seen in
+    came_owes terms at whole side all_sent left (came_in whole left)
 
 -- All of it that came, and nothing else.
-pub sent_as_it_comes : (at : At) (flow : Flow) (side : ℕ) (how : Sent) (seen : Sight) →
+pub sent_as_it_comes : (terms : Terms) (at : At) (flow : Flow) (side : ℕ) (how : Sent) (seen : Sight) →
     let stage : Stage = busy at flow (coming_down side how) in
-    to_client ((pass stage seen).owed ++ so_far (pass stage seen).stage (sight_past stage seen)) ≡ coming_text flow seen
-sent_as_it_comes at flow side how seen = came_owes at flow side how seen (came_in flow seen)
+    to_client ((pass terms stage seen).owed ++ so_far terms (pass terms stage seen).stage (sight_past terms stage seen)) ≡ coming_text flow seen
+sent_as_it_comes terms at flow side how seen = coming_owes (whole_in seen) terms at flow side how seen
 
 -- ---- which are streamed
 
--- one of which the bytes that came say so
-pub streams_here : (at : At) (flow : Flow) (side : ℕ) (how : Sent) (most : Option ℕ) (seen : Sight) → streams_in flow most seen ≡ true →
-    pass (busy at flow (response_body side how most)) seen ≡ pass (busy at (streaming flow) (coming_down side how)) seen
-streams_here at flow side how most seen is = ap (λ b. pass_kept b at flow side how most seen) is
+streams_by_size : (size : Option ℕ) (terms : Terms) (at : At) (flow : Flow) (side : ℕ) (how : Sent) (most : Option ℕ) (seen : Sight) → streams_in flow most seen ≡ true →
+    passes_by size terms at flow (response_body side how most) seen ≡ passes_by size terms at (streaming flow) (coming_down side how) seen
+streams_by_size size terms at flow side all_sent most seen is = ap (λ b. pass_kept b terms.place at flow side all_sent most seen) is
+streams_by_size None terms at flow side going_up most seen is = ap (λ b. pass_kept b terms.place at flow side going_up most seen) is
+streams_by_size (Some n) terms at flow side going_up most seen is =
+    let up : Turn Stage Command = record { owed = sends_going terms.place flow side seen; stage = over } in
+    ap (λ b. behind_turn up (pass_kept b terms.place at (with_whole flow seen.now) side all_sent most (past_gone (Some side) seen))) is
 
--- another one is kept
-pub keeps_here : (at : At) (flow : Flow) (side : ℕ) (how : Sent) (most : Option ℕ) (seen : Sight) → streams_in flow most seen ≡ false →
-    pass (busy at flow (response_body side how most)) seen ≡ goes_to (busy at flow (response_body side how most))
-keeps_here at flow side how most seen is = ap (λ b. pass_kept b at flow side how most seen) is
+-- one of which the bytes that came say so
+pub streams_here : (terms : Terms) (at : At) (flow : Flow) (side : ℕ) (how : Sent) (most : Option ℕ) (seen : Sight) → streams_in flow most seen ≡ true →
+    pass terms (busy at flow (response_body side how most)) seen ≡ pass terms (busy at (streaming flow) (coming_down side how)) seen
+streams_here terms at flow side how most seen is = streams_by_size (whole_in seen) terms at flow side how most seen is
+
+-- another one is kept, where its request was sent
+pub keeps_here : (terms : Terms) (at : At) (flow : Flow) (side : ℕ) (most : Option ℕ) (seen : Sight) → streams_in flow most seen ≡ false →
+    pass terms (busy at flow (response_body side all_sent most)) seen ≡ goes_to (busy at flow (response_body side all_sent most))
+keeps_here terms at flow side most seen is = ap (λ b. pass_kept b terms.place at flow side all_sent most seen) is
+
+-- or is not whole
+pub keeps_both : (terms : Terms) (at : At) (flow : Flow) (side : ℕ) (most : Option ℕ) (seen : Sight) → streams_in flow most seen ≡ false → whole_in seen ≡ None →
+    pass terms (busy at flow (response_body side going_up most)) seen ≡ goes_to (busy at flow (response_body side going_up most))
+keeps_both terms at flow side most seen is unfinished =
+    ap (λ size. passes_by size terms at flow (response_body side going_up most) seen) unfinished
+    ∙ ap (λ b. pass_kept b terms.place at flow side going_up most seen) is
 
 -- ---- what is found
 
@@ -128,14 +169,32 @@ coming_ends flow (complete head body trailers size) moment used false leaves owe
 coming_ends flow (bad_head fault) moment used true leaves owed none is = ap to_client (sym (ends_owed leaves owed is)) ∙ none
 coming_ends flow (bad_head fault) moment used false leaves owed none is = absurd (let e : NotYet ≡ Ends owed = is in cc)
 
+-- a bad body of its request is found first
+bad_ends : (item : Item ReadRequest) (ends : Fault → List Command) (found : Look Command) (closed : Bool) (leaves owed : List Command) → ((fault : Fault) → to_client (ends fault) ≡ []) →
+    (or_leaves closed leaves found ≡ Ends owed → to_client owed ≡ []) → or_leaves closed leaves (bad_or item ends found) ≡ Ends owed → to_client owed ≡ []
+bad_ends (bad_body fault head body) ends found closed leaves owed silent on is = ap to_client (sym (ends_owed (ends fault) owed is)) ∙ silent fault
+bad_ends missing ends found closed leaves owed silent on is = on is
+bad_ends (part head body) ends found closed leaves owed silent on is = on is
+bad_ends (complete head body trailers size) ends found closed leaves owed silent on is = on is
+bad_ends (bad_head fault) ends found closed leaves owed silent on is = on is
+
+up_ends : (how : Sent) (seen : Sight) (ends : Fault → List Command) (found : Look Command) (closed : Bool) (leaves owed : List Command) → ((fault : Fault) → to_client (ends fault) ≡ []) →
+    (or_leaves closed leaves found ≡ Ends owed → to_client owed ≡ []) → or_leaves closed leaves (look_up how seen ends found) ≡ Ends owed → to_client owed ≡ []
+up_ends all_sent seen ends found closed leaves owed silent on is = on is
+up_ends going_up seen ends found closed leaves owed silent on is = bad_ends (request_in seen) ends found closed leaves owed silent on is
+
 -- A fault, or the client's close, says nothing behind it.
 pub ends_silently : (terms : Terms) (at : At) (flow : Flow) (side : ℕ) (how : Sent) (seen : Sight) (owed : List Command) →
     look terms (busy at flow (coming_down side how)) seen ≡ Ends owed → to_client owed ≡ []
 ends_silently terms at flow side how seen owed is =
-    coming_ends flow (answers_in flow.request seen).final seen.now (server_in side seen) seen.closed (ends_early flow closed_message seen.now (server_in side seen) true) owed
-    (early_none flow closed_message seen.now (server_in side seen) true) is
+    let leaves : List Command = ends_early flow closed_message seen.now (server_in side seen) true in
+    up_ends how seen (λ fault. ends_early flow (fault_message fault) seen.now (server_in side seen) seen.closed)
+    (look_coming flow (answers_in flow.request seen).final seen.now (server_in side seen) seen.closed) seen.closed leaves owed
+    (λ fault. early_none flow (fault_message fault) seen.now (server_in side seen) seen.closed)
+    (coming_ends flow (answers_in flow.request seen).final seen.now (server_in side seen) seen.closed leaves owed
+    (early_none flow closed_message seen.now (server_in side seen) true)) is
 
-coming_asks : (flow : Flow) (item : Item ReadResponse) (moment : ℕ) (used : Used) (closed : Bool) (leaves : List Command) (ask : Command) →
+pub coming_asks : (flow : Flow) (item : Item ReadResponse) (moment : ℕ) (used : Used) (closed : Bool) (leaves : List Command) (ask : Command) →
     or_leaves closed leaves (look_coming flow item moment used closed) ≡ Asks ask → ⊥
 coming_asks flow (bad_body fault head body) moment used closed leaves ask is = let e : Ends (ends_early flow (fault_message fault) moment used closed) ≡ Asks ask = is in cc
 coming_asks flow missing moment used true leaves ask is = let e : Ends leaves ≡ Asks ask = is in cc
@@ -147,10 +206,27 @@ coming_asks flow (complete head body trailers size) moment used false leaves ask
 coming_asks flow (bad_head fault) moment used true leaves ask is = let e : Ends leaves ≡ Asks ask = is in cc
 coming_asks flow (bad_head fault) moment used false leaves ask is = let e : NotYet ≡ Asks ask = is in cc
 
+bad_asks : (item : Item ReadRequest) (ends : Fault → List Command) (found : Look Command) (closed : Bool) (leaves : List Command) (ask : Command) →
+    (or_leaves closed leaves found ≡ Asks ask → ⊥) → or_leaves closed leaves (bad_or item ends found) ≡ Asks ask → ⊥
+bad_asks (bad_body fault head body) ends found closed leaves ask on is = let e : Ends (ends fault) ≡ Asks ask = is in cc
+bad_asks missing ends found closed leaves ask on is = on is
+bad_asks (part head body) ends found closed leaves ask on is = on is
+bad_asks (complete head body trailers size) ends found closed leaves ask on is = on is
+bad_asks (bad_head fault) ends found closed leaves ask on is = on is
+
+-- nor by a bad body of a request that goes up
+pub up_asks : (how : Sent) (seen : Sight) (ends : Fault → List Command) (found : Look Command) (closed : Bool) (leaves : List Command) (ask : Command) →
+    (or_leaves closed leaves found ≡ Asks ask → ⊥) → or_leaves closed leaves (look_up how seen ends found) ≡ Asks ask → ⊥
+up_asks all_sent seen ends found closed leaves ask on is = on is
+up_asks going_up seen ends found closed leaves ask on is = bad_asks (request_in seen) ends found closed leaves ask on is
+
 -- No hook is asked of it.
 pub asks_nothing : (terms : Terms) (at : At) (flow : Flow) (side : ℕ) (how : Sent) (seen : Sight) (ask : Command) → look terms (busy at flow (coming_down side how)) seen ≡ Asks ask → ⊥
 asks_nothing terms at flow side how seen ask is =
-    coming_asks flow (answers_in flow.request seen).final seen.now (server_in side seen) seen.closed (ends_early flow closed_message seen.now (server_in side seen) true) ask is
+    let leaves : List Command = ends_early flow closed_message seen.now (server_in side seen) true in
+    up_asks how seen (λ fault. ends_early flow (fault_message fault) seen.now (server_in side seen) seen.closed)
+    (look_coming flow (answers_in flow.request seen).final seen.now (server_in side seen) seen.closed) seen.closed leaves ask
+    (coming_asks flow (answers_in flow.request seen).final seen.now (server_in side seen) seen.closed leaves ask) is
 
 -- ---- what is sent of one that is whole
 
@@ -178,7 +254,7 @@ read_back framed flow seen response head body trailers used is whole may =
 
 -- ---- what is sent next
 
-bytes_in_two : (text more : List ℕ) (rest : List Atom) → map byte (text ++ more) ++ rest ≡ (map byte text ++ []) ++ (map byte more ++ rest)
+pub bytes_in_two : (text more : List ℕ) (rest : List Atom) → map byte (text ++ more) ++ rest ≡ (map byte text ++ []) ++ (map byte more ++ rest)
 bytes_in_two text more rest =
     ap (λ l. l ++ rest) (map-append byte text more)
     ∙ (append_assoc (map byte text) (map byte more) rest ∙ ap (λ l. l ++ (map byte more ++ rest)) (sym (append-nil (map byte text))))

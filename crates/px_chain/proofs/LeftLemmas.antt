@@ -12,8 +12,8 @@ use Rattle.px_chain.proofs.QuietLemmas.{pass_led}
 -- behind a flow that can ask so much less
 pub sequence_behind : (flow dials count : ℕ) (stage : Stage) → 0 < count → IsBehind flow dials count stage → stages_left (sequence stage) < behind_left flow + count
 sequence_behind flow dials count (idle at) some is = absurd is
-sequence_behind flow dials count (busy at told (request_body given)) some ((same, most), more) = omega arith
-sequence_behind flow dials count (busy at told connection) some ((same, most), more) = omega arith
+sequence_behind flow dials count (busy at told (request_body given size)) some ((same, most), more) = omega arith
+sequence_behind flow dials count (busy at told (connection how)) some ((same, most), more) = omega arith
 sequence_behind flow dials count (busy at told (response_head side how)) some ((same, most), more) = omega arith
 sequence_behind flow dials count (busy at told (response_body side how size)) some ((same, most), more) = omega arith
 sequence_behind flow dials count (busy at told (coming_down side how)) some ((same, most), more) = omega arith
@@ -39,13 +39,13 @@ onward_behind onward (is_sequence same) flow dials count stage some is =
 
 -- at a flow, whatever it awaits
 flow_left : (onward : Stage → Stage) → IsOnward onward → (terms : Terms) (at : At) (flow : Flow) (doing : Doing) (seen : Sight) →
-    stages_left (onward (pass (busy at flow doing) seen).stage) ≤ behind_left at.flow + doing_left doing
+    stages_left (onward (pass terms (busy at flow doing) seen).stage) ≤ behind_left at.flow + doing_left doing
 flow_left onward goes terms at flow doing seen =
     let led = pass_led terms any_flow at flow doing seen tt in
-    let less = onward_behind onward goes at.flow at.dials (doing_left doing + 1) (pass (busy at flow doing) seen).stage (omega arith) led.behind in
+    let less = onward_behind onward goes at.flow at.dials (doing_left doing + 1) (pass terms (busy at flow doing) seen).stage (omega arith) led.behind in
     omega arith
 
 -- Where it passes, whether a flow ends there and the next one begins, it can ask no more.
 pub passes_left : (terms : Terms) (at : At) (flow : Flow) (doing : Doing) (seen : Sight) (onward : Stage → Stage) → IsOnward onward →
-    stages_left (onward (pass (busy at flow doing) seen).stage) ≤ stages_left (busy at flow doing)
+    stages_left (onward (pass terms (busy at flow doing) seen).stage) ≤ stages_left (busy at flow doing)
 passes_left terms at flow doing seen onward goes = flow_left onward goes terms at flow doing seen

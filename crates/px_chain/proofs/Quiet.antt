@@ -55,8 +55,8 @@ SameFlow flow dials at = (at.flow ≡ flow) × (at.dials ≤ dials)
 
 -- where a reply leads from a flow of this number, which can ask so much more
 abbrev pub IsBehindBy : ℕ → ℕ → ℕ → At → Doing → Type 0
-IsBehindBy flow dials count at (request_body given) = SameFlow flow dials at × (4 < count)
-IsBehindBy flow dials count at connection = SameFlow flow dials at × (3 < count)
+IsBehindBy flow dials count at (request_body given size) = SameFlow flow dials at × (4 < count)
+IsBehindBy flow dials count at (connection how) = SameFlow flow dials at × (3 < count)
 IsBehindBy flow dials count at (response_head side how) = SameFlow flow (dials + 1) at × (2 < count)
 IsBehindBy flow dials count at (response_body side how most) = SameFlow flow dials at × (1 < count)
 IsBehindBy flow dials count at (coming_down side how) = SameFlow flow dials at × (0 < count)

@@ -1,6 +1,6 @@
 -- How the sight of a place goes on: with one event more, where its stage passes, and behind a reply.
 use Rattle.std.proofs.Common.{◌≡◌, ℕ, ◌≤◌, Bool, true, false, List, [], ◌∷◌, ◌++◌, length, drop, Option, Some, None, refl, ap, sym, ◌∙◌, arith, length-append, subst}
-use Rattle.std.specs.Prelude.{if◌then◌else◌, ◌==◌}
+use Rattle.std.specs.Prelude.{if◌then◌else◌, ◌==◌, ◌&&◌}
 use Rattle.std.proofs.lemmas.List.{drop-append-le}
 use Rattle.px_message.specs.declared.flow.Flow.{Flow}
 use Rattle.px_message.specs.declared.request.Request.{Request}
@@ -27,22 +27,24 @@ use Rattle.px_exchange.specs.Places.{is_same_address, server_for}
 use Rattle.px_exchange.specs.Flows.{response_of, with_answer, with_body, with_returned}
 use Rattle.px_exchange.specs.Replies.{taken_at_request_head, taken_at_request_body, taken_at_response_head, taken_at_response_body}
 use Rattle.px_exchange.specs.Requests.{expects, flow_of, judged}
-use Rattle.px_chain.specs.Chain.{IsOnward, behind_flow, dial_leads, finish_by, given_at, goes_on_by, is_alone, is_sequence, opened_by, parked_for, pass, pass_body, pass_came, pass_kept, passed, past_came, past_kept, sequence, side_if, sight_past, stands, turn, turn_answer, turn_answer_head, turn_body, turn_given_head, turn_head, turn_judged, turn_response, turn_returned, turn_taken_answer, turn_taken_body, turn_taken_given, turn_taken_head, turn_taken_returned, turn_taken_whole, turn_whole_answer, used_by_came, used_by_kept, used_by_pass}
-use Rattle.px_chain.specs.Sights.{IsWithin, Sight, Standing, UsedBytes, answers_in, bytes_over, client_left, dials_at, left_by, request_in, server_behind, server_in, server_left, server_parked, server_used, server_with, shut_behind, shut_over, shut_with, sight_behind, sight_over, sight_with, used_behind}
-use Rattle.px_chain.specs.Stages.{At, Parked, Stage, busy, coming_down, connection, given_body, given_head, idle, next, over, request_body, response_body, response_head, side_of, side_parked, unparked, upgraded, Sent}
 use Rattle.px_event.specs.Sides.{piece_of}
+use Rattle.px_chain.specs.Behind.{dials_at, server_behind, shut_behind, sight_behind, used_behind}
+use Rattle.px_chain.specs.Chain.{IsOnward, begin_up, begins_going, behind_flow, come_down, dial_leads, end_by, end_up, finish_by, given_at, goes_on_by, goes_up_by, going_at, gone, gone_by, gone_up, is_alone, is_sequence, opened_by, parked_for, pass, pass_body, pass_came, pass_given, pass_going, pass_kept, passed, past_came, past_gone, past_kept, sequence, side_if, sight_begun, sight_come, sight_ended, sight_gone, sight_past, stands, turn, turn_answer, turn_answer_head, turn_body, turn_given_head, turn_head, turn_judged, turn_response, turn_returned, turn_taken_answer, turn_taken_body, turn_taken_given, turn_taken_head, turn_taken_returned, turn_taken_whole, turn_whole_answer, used_by_begin, used_by_came, used_by_coming, used_by_end, used_by_gone, used_by_kept, used_by_pass}
+use Rattle.px_chain.specs.Coming.{Came, allowed_by, came_in, goes_on_behind, streaming, streams_in}
+use Rattle.px_chain.specs.Going.{allowed_up_by, is_sent, sending_on, told_behind, whole_in}
+use Rattle.px_chain.specs.Sights.{IsWithin, Sight, Standing, UsedBytes, answers_in, bytes_over, client_left, left_by, request_in, server_in, server_left, server_parked, server_used, server_with, shut_over, shut_with, sight_over, sight_with, used_with}
+use Rattle.px_chain.specs.Stages.{At, Doing, Parked, Sent, Stage, all_sent, busy, coming_down, connection, given_body, given_head, idle, next, over, request_body, response_body, response_head, side_in, side_of, side_parked, unparked, upgraded}
 use Rattle.px_chain.specs.Streams.{bytes_of, client_closed, is_closed}
 use Rattle.px_chain.proofs.FrontLaws.{bytes_grow, bytes_more, bytes_shut, closed_more, now_here, now_more, open_behind}
 use Rattle.px_chain.proofs.UsedLaws.{client_drop, client_within, left_drop, request_within, server_drop, server_within}
-use Rattle.px_chain.specs.Coming.{Came, allowed_by, came_in, goes_on_behind, streaming, streams_in}
 
-abbrev make : List ℕ → Bool → List ℕ → Bool → ℕ → Sight
-make client closed server shut now = record { client = client; closed = closed; server = server; shut = shut; now = now }
+abbrev make : List ℕ → Bool → List ℕ → Bool → ℕ → ℕ → Sight
+make client closed server shut told now = record { client = client; closed = closed; server = server; shut = shut; told = told; now = now }
 
-make_eq : (client client' : List ℕ) (closed closed' : Bool) (server server' : List ℕ) (shut shut' : Bool) (now now' : ℕ) →
-    client ≡ client' → closed ≡ closed' → server ≡ server' → shut ≡ shut' → now ≡ now' →
-    make client closed server shut now ≡ make client' closed' server' shut' now'
-make_eq client client' closed closed' server server' shut shut' now now' a b c d e = rw (a, b, c, d, e) refl
+make_eq : (client client' : List ℕ) (closed closed' : Bool) (server server' : List ℕ) (shut shut' : Bool) (told told' now now' : ℕ) →
+    client ≡ client' → closed ≡ closed' → server ≡ server' → shut ≡ shut' → told ≡ told' → now ≡ now' →
+    make client closed server shut told now ≡ make client' closed' server' shut' told' now'
+make_eq client client' closed closed' server server' shut shut' told told' now now' a b c d t e = rw (a, b, c, d, t, e) refl
 
 -- ---- one event more
 
@@ -78,13 +80,14 @@ pub sight_more : (place : Standing) (prefix : List (Timed Event)) (e : Timed Eve
     sight_over place (prefix ++ e ∷ []) ≡ sight_with (side_of place.stage) (sight_over place prefix) e.value e.moment
 sight_more place prefix e open_client within =
     let side : Option ℕ = side_of place.stage in
-    make_eq _ _ _ _ _ _ _ _ _ _
+    make_eq _ _ _ _ _ _ _ _ _ _ _ _
     (ap (λ l. drop place.used.client l) (bytes_more Client prefix e open_client open_client)
     ∙ drop-append-le place.used.client (bytes_of Client prefix) (piece_of Client e.value) within.client)
     (closed_more Client prefix e open_client)
     (ap (λ l. drop place.used.server l) (server_more side place.opened prefix e within.opened open_client)
     ∙ used_more side (shut_over side place.opened prefix) place.used.server (bytes_over side place.opened prefix) e.value within.server)
     (shut_more side place.opened prefix e within.opened open_client)
+    refl
     (now_more place.since prefix e within.since)
 
 server_grows : (side : Option ℕ) (opened : ℕ) (prefix : List (Timed Event)) (e : Timed Event) → opened ≤ length prefix →
@@ -117,13 +120,156 @@ pub side_onward : (onward : Stage → Stage) → IsOnward onward → (stage : St
 side_onward onward (is_alone is) stage = ap (λ f. side_of (f stage)) is
 side_onward onward (is_sequence is) stage = ap (λ f. side_of (f stage)) is ∙ sequence_side stage
 
-body_side : (at : At) (flow : Flow) (given : Option Response) (item : Item ReadRequest) (now : ℕ) → side_of (pass_body at flow given item now) ≡ side_parked at.parked
-body_side at flow None item now = refl
-body_side at flow (Some response) missing now = refl
-body_side at flow (Some response) (part head body) now = refl
-body_side at flow (Some response) (complete head body trailers used) now = refl
-body_side at flow (Some response) (bad_head fault) now = refl
-body_side at flow (Some response) (bad_body fault head body) now = refl
+given_body_side : (at : At) (flow : Flow) (response : Response) (size : Option ℕ) (item : Item ReadRequest) (now : ℕ) → side_of (pass_given at flow response size item now) ≡ side_parked at.parked
+given_body_side at flow response size missing now = refl
+given_body_side at flow response size (part head body) now = refl
+given_body_side at flow response size (complete head body trailers used) now = refl
+given_body_side at flow response size (bad_head fault) now = refl
+given_body_side at flow response size (bad_body fault head body) now = refl
+
+-- a request that goes up goes to the parked side, or leaves it parked
+up_side_by : (to_it : Bool) (parked : Parked) (place : Place) (at : At) (flow : Flow) → at.parked ≡ Some parked → side_of (goes_up_by (side_if to_it parked.server) place at flow) ≡ Some parked.server
+up_side_by true parked place at flow is = refl
+up_side_by false parked place at flow is = ap side_parked is
+
+up_side : (place : Place) (request : Request) (parked : Option Parked) (at : At) (flow : Flow) → at.parked ≡ parked →
+    side_of (goes_up_by (parked_for place request parked) place at flow) ≡ side_parked parked
+up_side place request None at flow is = ap side_parked is
+up_side place request (Some parked) at flow is = up_side_by (is_same_address parked.address (server_for place request)) parked place at flow is
+
+going_side : (up : Bool) (place : Place) (at : At) (flow : Flow) (size : Option ℕ) → side_of (pass_going up place at flow size) ≡ side_parked at.parked
+going_side true place at flow size = up_side place flow.request at.parked at (sending_on flow) refl
+going_side false place at flow size = refl
+
+body_side : (place : Place) (at : At) (flow : Flow) (given : Option Response) (size : Option ℕ) (seen : Sight) → side_of (pass_body place at flow given size seen) ≡ side_parked at.parked
+body_side place at flow None size seen = going_side (begins_going place at flow size seen) place at flow size
+body_side place at flow (Some response) size seen = given_body_side at flow response size (request_in seen) seen.now
+
+-- where a request begins to go up the same side is open
+pub begin_side : (terms : Terms) (stage : Stage) (seen : Sight) → side_of (begin_up terms stage seen) ≡ side_of stage
+begin_side terms (idle at) seen = refl
+begin_side terms (busy at flow (request_body given size)) seen = body_side terms.place at flow given size seen
+begin_side terms (busy at flow (connection how)) seen = refl
+begin_side terms (busy at flow (response_head side how)) seen = refl
+begin_side terms (busy at flow (response_body side how most)) seen = refl
+begin_side terms (busy at flow (coming_down side how)) seen = refl
+begin_side terms (busy at flow (upgraded side)) seen = refl
+begin_side terms (busy at flow given_head) seen = refl
+begin_side terms (busy at flow given_body) seen = refl
+begin_side terms (next at) seen = refl
+begin_side terms over seen = refl
+
+gone_side : (at : At) (doing : Doing) → side_in at (gone doing) ≡ side_in at doing
+gone_side at (request_body given size) = refl
+gone_side at (connection how) = refl
+gone_side at (response_head side how) = refl
+gone_side at (response_body side how most) = refl
+gone_side at (coming_down side how) = refl
+gone_side at (upgraded side) = refl
+gone_side at given_head = refl
+gone_side at given_body = refl
+
+end_side_by : (going : Option ℕ) (place : Place) (at : At) (flow : Flow) (doing : Doing) (seen : Sight) → side_of (end_by going place at flow doing seen).stage ≡ side_in at doing
+end_side_by None place at flow doing seen = refl
+end_side_by (Some server) place at flow doing seen = gone_side at doing
+
+-- so is it where one that goes up is whole
+pub end_side : (terms : Terms) (stage : Stage) (seen : Sight) → side_of (end_up terms stage seen).stage ≡ side_of stage
+end_side terms (idle at) seen = refl
+end_side terms (busy at flow doing) seen = end_side_by (gone_by (going_at doing) (whole_in seen)) terms.place at flow doing seen
+end_side terms (next at) seen = refl
+end_side terms over seen = refl
+
+-- ---- what is used and left where a request goes up
+
+-- Nothing is used but bytes of the client, what is left is behind those, and they had come.
+pub record UsesClient (seen : Sight) (used : UsedBytes → UsedBytes) (past : Sight) : Type 0 where
+  pub of_server : (had : UsedBytes) → (used had).server ≡ had.server
+  pub closed : past.closed ≡ seen.closed
+  pub server : past.server ≡ seen.server
+  pub shut : past.shut ≡ seen.shut
+  pub told : past.told ≡ seen.told
+  pub now : past.now ≡ seen.now
+  pub client : (had : UsedBytes) (bytes : List ℕ) → seen.client ≡ drop had.client bytes → past.client ≡ drop (used had).client bytes
+  pub within : (had : UsedBytes) (bytes : List ℕ) → seen.client ≡ drop had.client bytes → had.client ≤ length bytes → (used had).client ≤ length bytes
+
+-- nothing is used
+uses_nothing : (seen : Sight) → UsesClient seen (λ had. had) seen
+uses_nothing seen = record {
+  of_server = λ had. refl;
+  closed = refl;
+  server = refl;
+  shut = refl;
+  told = refl;
+  now = refl;
+  client = λ had bytes is. is;
+  within = λ had bytes is within. within;
+}
+
+-- the bytes of the whole request
+uses_request : (seen : Sight) → UsesClient seen (λ had. record had { client = used_with (request_in seen) had.client }) (record seen { client = left_by (request_in seen) seen.client })
+uses_request seen = record {
+  of_server = λ had. refl;
+  closed = refl;
+  server = refl;
+  shut = refl;
+  told = refl;
+  now = refl;
+  client = λ had bytes is. ap (left_by (request_in seen)) is ∙ left_drop (request_in seen) had.client bytes;
+  within = λ had bytes is within. request_within seen had.client bytes is within;
+}
+
+-- one behind the other
+uses_both : (seen between past : Sight) (first second : UsedBytes → UsedBytes) → UsesClient seen first between → UsesClient between second past →
+    UsesClient seen (λ had. second (first had)) past
+uses_both seen between past first second a b = record {
+  of_server = λ had. b.of_server (first had) ∙ a.of_server had;
+  closed = b.closed ∙ a.closed;
+  server = b.server ∙ a.server;
+  shut = b.shut ∙ a.shut;
+  told = b.told ∙ a.told;
+  now = b.now ∙ a.now;
+  client = λ had bytes is. b.client (first had) bytes (a.client had bytes is);
+  within = λ had bytes is within. b.within (first had) bytes (a.client had bytes is) (a.within had bytes is within);
+}
+
+pub begin_uses : (stage : Stage) (seen : Sight) → UsesClient seen (used_by_begin stage seen) (sight_begun stage seen)
+begin_uses (idle at) seen = uses_nothing seen
+begin_uses (busy at flow (request_body None size)) seen = uses_nothing seen
+begin_uses (busy at flow (request_body (Some response) size)) seen = uses_request seen
+begin_uses (busy at flow (connection how)) seen = uses_nothing seen
+begin_uses (busy at flow (response_head side how)) seen = uses_nothing seen
+begin_uses (busy at flow (response_body side how most)) seen = uses_nothing seen
+begin_uses (busy at flow (coming_down side how)) seen = uses_nothing seen
+begin_uses (busy at flow (upgraded side)) seen = uses_nothing seen
+begin_uses (busy at flow given_head) seen = uses_nothing seen
+begin_uses (busy at flow given_body) seen = uses_nothing seen
+begin_uses (next at) seen = uses_nothing seen
+begin_uses over seen = uses_nothing seen
+
+end_uses_by : (going : Option ℕ) (seen : Sight) → UsesClient seen (used_by_gone going seen) (past_gone going seen)
+end_uses_by None seen = uses_nothing seen
+end_uses_by (Some server) seen = uses_request seen
+
+pub end_uses : (stage : Stage) (seen : Sight) → UsesClient seen (used_by_end stage seen) (sight_ended stage seen)
+end_uses (idle at) seen = uses_nothing seen
+end_uses (busy at flow doing) seen = end_uses_by (gone_by (going_at doing) (whole_in seen)) seen
+end_uses (next at) seen = uses_nothing seen
+end_uses over seen = uses_nothing seen
+
+-- What is used of a request that goes up, or needs no question.
+abbrev pub used_by_up : Terms → Stage → Sight → UsedBytes → UsedBytes
+used_by_up terms stage seen used = used_by_end (begin_up terms stage seen) (sight_begun stage seen) (used_by_begin stage seen used)
+
+pub up_uses : (terms : Terms) (stage : Stage) (seen : Sight) → UsesClient seen (used_by_up terms stage seen) (sight_gone terms stage seen)
+up_uses terms stage seen =
+    uses_both seen (sight_begun stage seen) (sight_gone terms stage seen) (used_by_begin stage seen) (used_by_end (begin_up terms stage seen) (sight_begun stage seen))
+    (begin_uses stage seen) (end_uses (begin_up terms stage seen) (sight_begun stage seen))
+
+pub gone_up_side : (terms : Terms) (stage : Stage) (seen : Sight) → side_of (gone_up terms stage seen) ≡ side_of stage
+gone_up_side terms stage seen = end_side terms (begin_up terms stage seen) (sight_begun stage seen) ∙ begin_side terms stage seen
+
+-- ---- where a response comes down
 
 -- Where it passes the same side of a server is open, of which nothing is used so; or none is open any more, and nothing is seen of one.
 pub data SidePassed (before : Option ℕ) (seen : Sight) (to : Stage) (used : UsedBytes → UsedBytes) (past : Sight) : Type 0 where
@@ -136,30 +282,44 @@ none_behind : (stays : Bool) (at : At) → side_of (behind_flow stays (unparked 
 none_behind true at = refl
 none_behind false at = refl
 
-came_side : (at : At) (flow : Flow) (side : ℕ) (how : Sent) (seen : Sight) (came : Option Came) →
-    SidePassed (Some side) seen (pass_came at flow side how seen came).stage (used_by_came came) (past_came came seen)
-came_side at flow side how seen None = same_side refl (λ had. refl) refl refl
-came_side at flow side how seen (Some came) = side_closed (none_behind (goes_on_behind at.flow flow.request came) at) (λ had. refl) refl refl
+came_side : (place : Place) (at : At) (flow : Flow) (side : ℕ) (how : Sent) (seen : Sight) (came : Option Came) →
+    SidePassed (Some side) seen (pass_came place at flow side how seen came).stage (used_by_came came) (past_came came seen)
+came_side place at flow side how seen None = same_side refl (λ had. refl) refl refl
+came_side place at flow side how seen (Some came) = side_closed (none_behind (is_sent how && goes_on_behind at.flow flow.request came) at) (λ had. refl) refl refl
 
-kept_side : (streams : Bool) (at : At) (flow : Flow) (side : ℕ) (how : Sent) (most : Option ℕ) (seen : Sight) →
-    SidePassed (Some side) seen (pass_kept streams at flow side how most seen).stage (used_by_kept streams (came_in (streaming flow) seen))
+kept_side : (streams : Bool) (place : Place) (at : At) (flow : Flow) (side : ℕ) (how : Sent) (most : Option ℕ) (seen : Sight) →
+    SidePassed (Some side) seen (pass_kept streams place at flow side how most seen).stage (used_by_kept streams (came_in (streaming flow) seen))
     (past_kept streams (came_in (streaming flow) seen) seen)
-kept_side true at flow side how most seen = came_side at (streaming flow) side how seen (came_in (streaming flow) seen)
-kept_side false at flow side how most seen = same_side refl (λ had. refl) refl refl
+kept_side true place at flow side how most seen = came_side place at (streaming flow) side how seen (came_in (streaming flow) seen)
+kept_side false place at flow side how most seen = same_side refl (λ had. refl) refl refl
 
-pub side_passed : (stage : Stage) (seen : Sight) → SidePassed (side_of stage) seen (pass stage seen).stage (used_by_pass stage seen) (sight_past stage seen)
-side_passed (idle at) seen = same_side refl (λ had. refl) refl refl
-side_passed (busy at flow (request_body None)) seen = same_side refl (λ had. refl) refl refl
-side_passed (busy at flow (request_body (Some response))) seen = same_side (body_side at flow (Some response) (request_in seen) seen.now) (λ had. refl) refl refl
-side_passed (busy at flow connection) seen = same_side refl (λ had. refl) refl refl
-side_passed (busy at flow (response_head side how)) seen = same_side refl (λ had. refl) refl refl
-side_passed (busy at flow (response_body side how most)) seen = kept_side (streams_in flow most seen) at flow side how most seen
-side_passed (busy at flow (coming_down side how)) seen = came_side at flow side how seen (came_in flow seen)
-side_passed (busy at flow (upgraded side)) seen = same_side refl (λ had. refl) refl refl
-side_passed (busy at flow given_head) seen = same_side refl (λ had. refl) refl refl
-side_passed (busy at flow given_body) seen = same_side refl (λ had. refl) refl refl
-side_passed (next at) seen = same_side refl (λ had. refl) refl refl
-side_passed over seen = same_side refl (λ had. refl) refl refl
+come_side : (terms : Terms) (stage : Stage) (seen : Sight) → SidePassed (side_of stage) seen (come_down terms stage seen).stage (used_by_coming stage seen) (sight_come stage seen)
+come_side terms (idle at) seen = same_side refl (λ had. refl) refl refl
+come_side terms (busy at flow (request_body given size)) seen = same_side refl (λ had. refl) refl refl
+come_side terms (busy at flow (connection how)) seen = same_side refl (λ had. refl) refl refl
+come_side terms (busy at flow (response_head side how)) seen = same_side refl (λ had. refl) refl refl
+come_side terms (busy at flow (response_body side how most)) seen = kept_side (streams_in flow most seen) terms.place at flow side how most seen
+come_side terms (busy at flow (coming_down side how)) seen = came_side terms.place at flow side how seen (came_in flow seen)
+come_side terms (busy at flow (upgraded side)) seen = same_side refl (λ had. refl) refl refl
+come_side terms (busy at flow given_head) seen = same_side refl (λ had. refl) refl refl
+come_side terms (busy at flow given_body) seen = same_side refl (λ had. refl) refl refl
+come_side terms (next at) seen = same_side refl (λ had. refl) refl refl
+come_side terms over seen = same_side refl (λ had. refl) refl refl
+
+-- behind what a request leaves, which is the server's side as it was
+passed_by : (before between : Option ℕ) (seen middle : Sight) (to : Stage) (first second : UsedBytes → UsedBytes) (past : Sight) → between ≡ before → UsesClient seen first middle →
+    SidePassed between middle to second past → SidePassed before seen to (λ had. second (first had)) past
+passed_by before between seen middle to first second past same uses (same_side is had bytes shut) =
+    same_side (is ∙ same) (λ used. had (first used) ∙ uses.of_server used) (bytes ∙ uses.server) (shut ∙ uses.shut)
+passed_by before between seen middle to first second past same uses (side_closed is had bytes shut) = side_closed is (λ used. had (first used)) bytes shut
+
+pub side_passed : (terms : Terms) (stage : Stage) (seen : Sight) →
+    SidePassed (side_of stage) seen (pass terms stage seen).stage (used_by_pass terms stage seen) (sight_past terms stage seen)
+side_passed terms stage seen =
+    let there : Stage = gone_up terms stage seen in
+    let left : Sight = sight_gone terms stage seen in
+    passed_by (side_of stage) (side_of there) seen left (come_down terms there left).stage (used_by_up terms stage seen) (used_by_coming there left) (sight_come there left)
+    (gone_up_side terms stage seen) (up_uses terms stage seen) (come_side terms there left)
 
 -- nothing of the client is used behind a request
 came_client : (came : Option Came) (seen : Sight) (used : UsedBytes) → ((used_by_came came used).client ≡ used.client) × ((past_came came seen).client ≡ seen.client)
@@ -171,52 +331,61 @@ kept_client : (streams : Bool) (came : Option Came) (seen : Sight) (used : UsedB
 kept_client true came seen used = came_client came seen used
 kept_client false came seen used = (refl, refl)
 
+come_client : (stage : Stage) (seen : Sight) (used : UsedBytes) → ((used_by_coming stage seen used).client ≡ used.client) × ((sight_come stage seen).client ≡ seen.client)
+come_client (idle at) seen used = (refl, refl)
+come_client (busy at flow (request_body given size)) seen used = (refl, refl)
+come_client (busy at flow (connection how)) seen used = (refl, refl)
+come_client (busy at flow (response_head side how)) seen used = (refl, refl)
+come_client (busy at flow (response_body side how most)) seen used = kept_client (streams_in flow most seen) (came_in (streaming flow) seen) seen used
+come_client (busy at flow (coming_down side how)) seen used = came_client (came_in flow seen) seen used
+come_client (busy at flow (upgraded side)) seen used = (refl, refl)
+come_client (busy at flow given_head) seen used = (refl, refl)
+come_client (busy at flow given_body) seen used = (refl, refl)
+come_client (next at) seen used = (refl, refl)
+come_client over seen used = (refl, refl)
+
+-- ---- where it passes
+
 -- what it uses is what it leaves behind
-past_drop : (stage : Stage) (seen : Sight) (used : UsedBytes) (bytes : List ℕ) → seen.client ≡ drop used.client bytes →
-    drop (used_by_pass stage seen used).client bytes ≡ (sight_past stage seen).client
-past_drop (idle at) seen used bytes is = sym is
-past_drop (busy at flow (request_body None)) seen used bytes is = sym is
-past_drop (busy at flow (request_body (Some response))) seen used bytes is =
-    sym (ap (left_by (request_in seen)) is ∙ left_drop (request_in seen) used.client bytes)
-past_drop (busy at flow connection) seen used bytes is = sym is
-past_drop (busy at flow (response_head side how)) seen used bytes is = sym is
-past_drop (busy at flow (response_body side how most)) seen used bytes is =
-    let same = kept_client (streams_in flow most seen) (came_in (streaming flow) seen) seen used in
-    ap (λ n. drop n bytes) same.0 ∙ (sym is ∙ sym same.1)
-past_drop (busy at flow (coming_down side how)) seen used bytes is =
-    let same = came_client (came_in flow seen) seen used in
-    ap (λ n. drop n bytes) same.0 ∙ (sym is ∙ sym same.1)
-past_drop (busy at flow (upgraded side)) seen used bytes is = sym is
-past_drop (busy at flow given_head) seen used bytes is = sym is
-past_drop (busy at flow given_body) seen used bytes is = sym is
-past_drop (next at) seen used bytes is = sym is
-past_drop over seen used bytes is = sym is
+past_drop : (terms : Terms) (stage : Stage) (seen : Sight) (used : UsedBytes) (bytes : List ℕ) → seen.client ≡ drop used.client bytes →
+    drop (used_by_pass terms stage seen used).client bytes ≡ (sight_past terms stage seen).client
+past_drop terms stage seen used bytes is =
+    let there : Stage = gone_up terms stage seen in
+    let left : Sight = sight_gone terms stage seen in
+    let same = come_client there left (used_by_up terms stage seen used) in
+    ap (λ n. drop n bytes) same.0 ∙ (sym ((up_uses terms stage seen).client used bytes is) ∙ sym same.1)
 
 -- the sight that is left, by the bytes of both sides and the server's close
 came_past : (came : Option Came) (seen : Sight) →
-    past_came came seen ≡ make (past_came came seen).client seen.closed (past_came came seen).server (past_came came seen).shut seen.now
+    past_came came seen ≡ make (past_came came seen).client seen.closed (past_came came seen).server (past_came came seen).shut seen.told seen.now
 came_past None seen = refl
 came_past (Some came) seen = refl
 
 kept_past : (streams : Bool) (came : Option Came) (seen : Sight) →
-    past_kept streams came seen ≡ make (past_kept streams came seen).client seen.closed (past_kept streams came seen).server (past_kept streams came seen).shut seen.now
+    past_kept streams came seen ≡ make (past_kept streams came seen).client seen.closed (past_kept streams came seen).server (past_kept streams came seen).shut seen.told seen.now
 kept_past true came seen = came_past came seen
 kept_past false came seen = refl
 
-past_by : (stage : Stage) (seen : Sight) →
-    sight_past stage seen ≡ make (sight_past stage seen).client seen.closed (sight_past stage seen).server (sight_past stage seen).shut seen.now
-past_by (idle at) seen = refl
-past_by (busy at flow (request_body None)) seen = refl
-past_by (busy at flow (request_body (Some response))) seen = refl
-past_by (busy at flow connection) seen = refl
-past_by (busy at flow (response_head side how)) seen = refl
-past_by (busy at flow (response_body side how most)) seen = kept_past (streams_in flow most seen) (came_in (streaming flow) seen) seen
-past_by (busy at flow (coming_down side how)) seen = came_past (came_in flow seen) seen
-past_by (busy at flow (upgraded side)) seen = refl
-past_by (busy at flow given_head) seen = refl
-past_by (busy at flow given_body) seen = refl
-past_by (next at) seen = refl
-past_by over seen = refl
+come_past : (stage : Stage) (seen : Sight) →
+    sight_come stage seen ≡ make (sight_come stage seen).client seen.closed (sight_come stage seen).server (sight_come stage seen).shut seen.told seen.now
+come_past (idle at) seen = refl
+come_past (busy at flow (request_body given size)) seen = refl
+come_past (busy at flow (connection how)) seen = refl
+come_past (busy at flow (response_head side how)) seen = refl
+come_past (busy at flow (response_body side how most)) seen = kept_past (streams_in flow most seen) (came_in (streaming flow) seen) seen
+come_past (busy at flow (coming_down side how)) seen = came_past (came_in flow seen) seen
+come_past (busy at flow (upgraded side)) seen = refl
+come_past (busy at flow given_head) seen = refl
+come_past (busy at flow given_body) seen = refl
+come_past (next at) seen = refl
+come_past over seen = refl
+
+past_by : (terms : Terms) (stage : Stage) (seen : Sight) →
+    sight_past terms stage seen ≡ make (sight_past terms stage seen).client seen.closed (sight_past terms stage seen).server (sight_past terms stage seen).shut seen.told seen.now
+past_by terms stage seen =
+    let uses = up_uses terms stage seen in
+    come_past (gone_up terms stage seen) (sight_gone terms stage seen)
+    ∙ make_eq _ _ _ _ _ _ _ _ _ _ _ _ refl uses.closed refl refl uses.told uses.now
 
 -- What is seen of the server's side where it passed, to a stage with this side: its bytes, its close, and that what is used of it came.
 record SideLeft (side : Option ℕ) (opened : ℕ) (used : UsedBytes) (past : Sight) (prefix : List (Timed Event)) (fits : Type 0) : Type 0 where
@@ -245,54 +414,46 @@ side_left place prefix side to used past (side_closed is had bytes shut) at =
       within = λ fits. subst (λ n. n ≤ length (bytes_over side place.opened prefix)) (sym (had place.used)) (omega arith);
     }
 
-left_passed : (onward : Stage → Stage) → IsOnward onward → (place : Standing) (prefix : List (Timed Event)) →
+left_passed : (onward : Stage → Stage) → IsOnward onward → (terms : Terms) (place : Standing) (prefix : List (Timed Event)) →
     let seen : Sight = sight_over place prefix in
-    SideLeft (side_of (passed onward place seen).stage) place.opened (used_by_pass place.stage seen place.used) (sight_past place.stage seen) prefix
+    SideLeft (side_of (passed onward terms place seen).stage) place.opened (used_by_pass terms place.stage seen place.used) (sight_past terms place.stage seen) prefix
     (place.used.server ≤ length (bytes_over (side_of place.stage) place.opened prefix))
-left_passed onward goes place prefix =
+left_passed onward goes terms place prefix =
     let seen : Sight = sight_over place prefix in
-    let to : Stage = (pass place.stage seen).stage in
-    side_left place prefix (side_of (onward to)) to (used_by_pass place.stage seen) (sight_past place.stage seen) (side_passed place.stage seen) (side_onward onward goes to)
+    let to : Stage = (pass terms place.stage seen).stage in
+    side_left place prefix (side_of (onward to)) to (used_by_pass terms place.stage seen) (sight_past terms place.stage seen) (side_passed terms place.stage seen) (side_onward onward goes to)
 
 -- Of the sight the bytes are left that it did not use.
-pub sight_passed : (onward : Stage → Stage) → IsOnward onward → (place : Standing) (prefix : List (Timed Event)) →
-    sight_over (passed onward place (sight_over place prefix)) prefix ≡ sight_past place.stage (sight_over place prefix)
-sight_passed onward goes place prefix =
+pub sight_passed : (onward : Stage → Stage) → IsOnward onward → (terms : Terms) (place : Standing) (prefix : List (Timed Event)) →
+    sight_over (passed onward terms place (sight_over place prefix)) prefix ≡ sight_past terms place.stage (sight_over place prefix)
+sight_passed onward goes terms place prefix =
     let seen : Sight = sight_over place prefix in
-    let side = left_passed onward goes place prefix in
-    make_eq _ _ _ _ _ _ _ _ _ _
-    (past_drop place.stage seen place.used (bytes_of Client prefix) refl)
+    let side = left_passed onward goes terms place prefix in
+    make_eq _ _ _ _ _ _ _ _ _ _ _ _
+    (past_drop terms place.stage seen place.used (bytes_of Client prefix) refl)
     refl
     side.bytes
     side.shut
     refl
-    ∙ sym (past_by place.stage seen)
+    refl
+    ∙ sym (past_by terms place.stage seen)
 
-past_within : (stage : Stage) (seen : Sight) (used : UsedBytes) (bytes : List ℕ) → seen.client ≡ drop used.client bytes → used.client ≤ length bytes →
-    (used_by_pass stage seen used).client ≤ length bytes
-past_within (idle at) seen used bytes is within = within
-past_within (busy at flow (request_body None)) seen used bytes is within = within
-past_within (busy at flow (request_body (Some response))) seen used bytes is within = request_within seen used.client bytes is within
-past_within (busy at flow connection) seen used bytes is within = within
-past_within (busy at flow (response_head side how)) seen used bytes is within = within
-past_within (busy at flow (response_body side how most)) seen used bytes is within =
-    let same = (kept_client (streams_in flow most seen) (came_in (streaming flow) seen) seen used).0 in omega arith
-past_within (busy at flow (coming_down side how)) seen used bytes is within = let same = (came_client (came_in flow seen) seen used).0 in omega arith
-past_within (busy at flow (upgraded side)) seen used bytes is within = within
-past_within (busy at flow given_head) seen used bytes is within = within
-past_within (busy at flow given_body) seen used bytes is within = within
-past_within (next at) seen used bytes is within = within
-past_within over seen used bytes is within = within
+past_within : (terms : Terms) (stage : Stage) (seen : Sight) (used : UsedBytes) (bytes : List ℕ) → seen.client ≡ drop used.client bytes → used.client ≤ length bytes →
+    (used_by_pass terms stage seen used).client ≤ length bytes
+past_within terms stage seen used bytes is within =
+    let same = (come_client (gone_up terms stage seen) (sight_gone terms stage seen) (used_by_up terms stage seen used)).0 in
+    let fits = (up_uses terms stage seen).within used bytes is within in
+    omega arith
 
-pub within_passed : (onward : Stage → Stage) → IsOnward onward → (place : Standing) (prefix : List (Timed Event)) → IsWithin place prefix →
-    IsWithin (passed onward place (sight_over place prefix)) prefix
-within_passed onward goes place prefix within =
+pub within_passed : (onward : Stage → Stage) → IsOnward onward → (terms : Terms) (place : Standing) (prefix : List (Timed Event)) → IsWithin place prefix →
+    IsWithin (passed onward terms place (sight_over place prefix)) prefix
+within_passed onward goes terms place prefix within =
     let seen : Sight = sight_over place prefix in
     record {
       since = within.since;
       opened = within.opened;
-      client = past_within place.stage seen place.used (bytes_of Client prefix) refl within.client;
-      server = (left_passed onward goes place prefix).within within.server;
+      client = past_within terms place.stage seen place.used (bytes_of Client prefix) refl within.client;
+      server = (left_passed onward goes terms place prefix).within within.server;
     }
 
 -- ---- behind a reply
@@ -300,7 +461,7 @@ within_passed onward goes place prefix within =
 -- The server's side behind a reply, of the stage before: none, a new one where a connection was awaited, or the same.
 pub data IsSideFrom (from : Stage) (side : Option ℕ) : Type 0 where
   no_side : side ≡ None → IsSideFrom from side
-  is_new : (at : At) (flow : Flow) → from ≡ busy at flow connection → side ≡ Some at.dials → IsSideFrom from side
+  is_new : (at : At) (flow : Flow) (how : Sent) → from ≡ busy at flow (connection how) → side ≡ Some at.dials → IsSideFrom from side
   same_server : dials_at from ≡ false → side ≡ side_of from → IsSideFrom from side
 
 drop_all : {A : Type 0} (xs : List A) → drop (length xs) xs ≡ []
@@ -333,30 +494,31 @@ heard_same (Some side) opened used prefix = record { bytes = refl; shut = refl; 
 heard_from : (from : Stage) (side : Option ℕ) (opened used : ℕ) (prefix : List (Timed Event)) → IsSideFrom from side →
     HeardFrom (dials_at from) (side_of from) side opened used prefix
 heard_from from side opened used prefix (no_side is) = rw is (heard_none (dials_at from) (side_of from) opened used prefix)
-heard_from from side opened used prefix (is_new at flow is new) = rw (is, new) (heard_new (side_parked at.parked) at.dials opened used prefix)
+heard_from from side opened used prefix (is_new at flow how is new) = rw (is, new) (heard_new (side_parked at.parked) at.dials opened used prefix)
 heard_from from side opened used prefix (same_server none is) = rw (none, is) (heard_same (side_of from) opened used prefix)
 
 -- What a stage that was come to by a reply sees over the same prefix.
-pub sight_stood : (place : Standing) (moment : ℕ) (prefix : List (Timed Event)) (stage : Stage) → IsSideFrom place.stage (side_of stage) →
-    sight_over (stands place moment prefix stage) prefix ≡ sight_behind place.stage (sight_over place prefix) moment stage
-sight_stood place moment prefix stage how =
+pub sight_stood : (terms : Terms) (place : Standing) (moment : ℕ) (prefix : List (Timed Event)) (stage : Stage) → IsSideFrom place.stage (side_of stage) →
+    sight_over (stands terms place moment prefix stage) prefix ≡ sight_behind terms.place place.stage (sight_over place prefix) moment stage
+sight_stood terms place moment prefix stage how =
     let seen : Sight = sight_over place prefix in
     let before : List ℕ = bytes_over (side_of place.stage) place.opened prefix in
     let heard = heard_from place.stage (side_of stage) place.opened (server_used place.stage seen place.used.server) prefix how in
-    make_eq _ _ _ _ _ _ _ _ _ _
+    make_eq _ _ _ _ _ _ _ _ _ _ _ _
     (sym (client_drop place.stage seen place.used.client (bytes_of Client prefix) refl))
     refl
     (heard.bytes ∙ ap (λ l. server_behind (dials_at place.stage) (side_of stage) l) (sym (server_drop place.stage seen place.used.server before refl)))
     heard.shut
+    refl
     (now_here moment prefix)
 
 opened_within : (dialled : Bool) (opened come : ℕ) → opened ≤ come → opened_by dialled opened come ≤ come
 opened_within true opened come within = omega arith
 opened_within false opened come within = within
 
-pub within_stood : (place : Standing) (moment : ℕ) (prefix : List (Timed Event)) (stage : Stage) → IsSideFrom place.stage (side_of stage) → IsWithin place prefix →
-    IsWithin (stands place moment prefix stage) prefix
-within_stood place moment prefix stage how within =
+pub within_stood : (terms : Terms) (place : Standing) (moment : ℕ) (prefix : List (Timed Event)) (stage : Stage) → IsSideFrom place.stage (side_of stage) → IsWithin place prefix →
+    IsWithin (stands terms place moment prefix stage) prefix
+within_stood terms place moment prefix stage how within =
     let seen : Sight = sight_over place prefix in
     let before : List ℕ = bytes_over (side_of place.stage) place.opened prefix in
     let heard = heard_from place.stage (side_of stage) place.opened (server_used place.stage seen place.used.server) prefix how in
@@ -368,12 +530,13 @@ within_stood place moment prefix stage how within =
     }
 
 -- the sight behind a reply, by the server's side that is used there
-abbrev pub sight_behind_by : Stage → Sight → ℕ → Option ℕ → Sight
-sight_behind_by from seen moment side = record {
+abbrev pub sight_behind_by : Place → Stage → Sight → ℕ → Option ℕ → Sight
+sight_behind_by place from seen moment side = record {
   client = client_left from seen;
   closed = seen.closed;
   server = server_behind (dials_at from) side (server_left from seen);
   shut = shut_behind (dials_at from) side seen.shut;
+  told = told_behind place from seen;
   now = moment;
 }
 
@@ -384,18 +547,18 @@ data IsKept (before later : Option ℕ) : Type 0 where
   kept : later ≡ before → IsKept before later
   left : later ≡ None → IsKept before later
 
-taken_head_side : (at : At) (flow : Flow) (expected : Bool) (taken : Taken Request) (moment : ℕ) (seen : Sight) →
-    IsKept (side_parked at.parked) (side_of (turn_taken_head at flow expected taken moment seen).stage)
-taken_head_side at flow expected (GoesOn request) moment seen = kept refl
-taken_head_side at flow expected (Responds response) moment seen = kept refl
-taken_head_side at flow expected Kills moment seen = left refl
+taken_head_side : (at : At) (flow : Flow) (expected : Bool) (most : Option ℕ) (taken : Taken Request) (moment : ℕ) (seen : Sight) →
+    IsKept (side_parked at.parked) (side_of (turn_taken_head at flow expected most taken moment seen).stage)
+taken_head_side at flow expected most (GoesOn request) moment seen = kept refl
+taken_head_side at flow expected most (Responds response) moment seen = kept refl
+taken_head_side at flow expected most Kills moment seen = left refl
 
 judged_side : (terms : Terms) (at : At) (head : ReadRequest) (made : Judged) (seen : Sight) (answer : Timed Reply) →
     IsKept (side_parked at.parked) (side_of (turn_judged terms at head made seen answer).stage)
 judged_side terms at head (Refused fault) seen answer = left refl
 judged_side terms at head (Connects address) seen answer = left refl
 judged_side terms at head (Accepted request) seen answer =
-    taken_head_side at (flow_of terms at.flow request seen.now) (expects head) (taken_at_request_head request answer.value) answer.moment seen
+    taken_head_side at (flow_of terms at.flow request seen.now) (expects head) (allowed_up_by terms.streams answer.value) (taken_at_request_head request answer.value) answer.moment seen
 
 head_side : (terms : Terms) (at : At) (item : Item ReadRequest) (seen : Sight) (answer : Timed Reply) →
     IsKept (side_parked at.parked) (side_of (turn_head terms at item seen answer).stage)
@@ -432,24 +595,24 @@ turned_body_side place at flow (complete head body trailers used) seen answer =
 turned_body_side place at flow (bad_head fault) seen answer = left refl
 turned_body_side place at flow (bad_body fault head body) seen answer = left refl
 
-taken_answer_side : (at : At) (flow : Flow) (side : ℕ) (most : Option ℕ) (taken : Taken Response) (moment : ℕ) (used : Used) (closed : Bool) →
-    IsKept (Some side) (side_of (turn_taken_answer at flow side most taken moment used closed).stage)
-taken_answer_side at flow side most (GoesOn response) moment used closed = kept refl
-taken_answer_side at flow side most (Responds response) moment used closed = left refl
-taken_answer_side at flow side most Kills moment used closed = left refl
+taken_answer_side : (at : At) (flow : Flow) (side : ℕ) (how : Sent) (most : Option ℕ) (taken : Taken Response) (moment : ℕ) (used : Used) (closed : Bool) →
+    IsKept (Some side) (side_of (turn_taken_answer at flow side how most taken moment used closed).stage)
+taken_answer_side at flow side how most (GoesOn response) moment used closed = kept refl
+taken_answer_side at flow side how most (Responds response) moment used closed = left refl
+taken_answer_side at flow side how most Kills moment used closed = left refl
 
-answer_head_side : (terms : Terms) (at : At) (flow : Flow) (side : ℕ) (head : ReadResponse) (seen : Sight) (answer : Timed Reply) →
-    IsKept (Some side) (side_of (turn_answer_head terms at flow side head seen answer).stage)
-answer_head_side terms at flow side head seen answer =
-    taken_answer_side at (with_answer flow (response_of head) seen.now) side (allowed_by terms.streams answer.value) (taken_at_response_head (response_of head) answer.value) answer.moment (server_in side seen) seen.closed
+answer_head_side : (terms : Terms) (at : At) (flow : Flow) (side : ℕ) (how : Sent) (head : ReadResponse) (seen : Sight) (answer : Timed Reply) →
+    IsKept (Some side) (side_of (turn_answer_head terms at flow side how head seen answer).stage)
+answer_head_side terms at flow side how head seen answer =
+    taken_answer_side at (with_answer flow (response_of head) seen.now) side how (allowed_by terms.streams answer.value) (taken_at_response_head (response_of head) answer.value) answer.moment (server_in side seen) seen.closed
 
-answer_side : (terms : Terms) (at : At) (flow : Flow) (side : ℕ) (item : Item ReadResponse) (seen : Sight) (answer : Timed Reply) →
-    IsKept (Some side) (side_of (turn_answer terms at flow side item seen answer).stage)
-answer_side terms at flow side missing seen answer = left refl
-answer_side terms at flow side (part head body) seen answer = answer_head_side terms at flow side head seen answer
-answer_side terms at flow side (complete head body trailers size) seen answer = answer_head_side terms at flow side head seen answer
-answer_side terms at flow side (bad_head fault) seen answer = left refl
-answer_side terms at flow side (bad_body fault head body) seen answer = answer_head_side terms at flow side head seen answer
+answer_side : (terms : Terms) (at : At) (flow : Flow) (side : ℕ) (how : Sent) (item : Item ReadResponse) (seen : Sight) (answer : Timed Reply) →
+    IsKept (Some side) (side_of (turn_answer terms at flow side how item seen answer).stage)
+answer_side terms at flow side how missing seen answer = left refl
+answer_side terms at flow side how (part head body) seen answer = answer_head_side terms at flow side how head seen answer
+answer_side terms at flow side how (complete head body trailers size) seen answer = answer_head_side terms at flow side how head seen answer
+answer_side terms at flow side how (bad_head fault) seen answer = left refl
+answer_side terms at flow side how (bad_body fault head body) seen answer = answer_head_side terms at flow side how head seen answer
 
 behind_side : (stays : Bool) (at : At) → IsKept (side_parked at.parked) (side_of (behind_flow stays at))
 behind_side true at = kept refl
@@ -457,7 +620,7 @@ behind_side false at = left refl
 
 taken_returned_side : (at : At) (flow : Flow) (taken : Taken Response) (moment : ℕ) (parked : Used) (closed : Bool) →
     IsKept (side_parked at.parked) (side_of (turn_taken_returned at flow taken moment parked closed).stage)
-taken_returned_side at flow (GoesOn response) moment parked closed = behind_side (connection_goes_on at.flow flow.request response) at
+taken_returned_side at flow (GoesOn response) moment parked closed = behind_side (is_sent all_sent && connection_goes_on at.flow flow.request response) at
 taken_returned_side at flow (Responds response) moment parked closed = left refl
 taken_returned_side at flow Kills moment parked closed = left refl
 
@@ -473,31 +636,31 @@ whole_side at flow answer parked closed =
     (λ taken. turn_taken_returned at flow taken answer.moment parked closed)
     (λ taken. taken_returned_side at flow taken answer.moment parked closed)
 
-finish_side : (switches : Bool) (at : At) (flow : Flow) (response : Response) (side : ℕ) (used : Used) (closed : Bool) →
-    IsKept (Some side) (side_of (finish_by switches at flow response side used closed).stage)
-finish_side true at flow response side used closed = kept refl
-finish_side false at flow response side used closed = left (none_behind (connection_goes_on at.flow flow.request response) at)
+finish_side : (switches : Bool) (at : At) (flow : Flow) (how : Sent) (response : Response) (side : ℕ) (used : Used) (closed : Bool) →
+    IsKept (Some side) (side_of (finish_by switches at flow how response side used closed).stage)
+finish_side true at flow how response side used closed = kept refl
+finish_side false at flow how response side used closed = left (none_behind (is_sent how && connection_goes_on at.flow flow.request response) at)
 
-taken_whole_side : (at : At) (flow : Flow) (side : ℕ) (taken : Taken Response) (moment : ℕ) (used : Used) (closed : Bool) →
-    IsKept (Some side) (side_of (turn_taken_whole at flow side taken moment used closed).stage)
-taken_whole_side at flow side (GoesOn response) moment used closed = finish_side (response.status == 101) at flow response side used closed
-taken_whole_side at flow side (Responds response) moment used closed = left refl
-taken_whole_side at flow side Kills moment used closed = left refl
+taken_whole_side : (at : At) (flow : Flow) (side : ℕ) (how : Sent) (taken : Taken Response) (moment : ℕ) (used : Used) (closed : Bool) →
+    IsKept (Some side) (side_of (turn_taken_whole at flow side how taken moment used closed).stage)
+taken_whole_side at flow side how (GoesOn response) moment used closed = finish_side (is_sent how && response.status == 101) at flow how response side used closed
+taken_whole_side at flow side how (Responds response) moment used closed = left refl
+taken_whole_side at flow side how Kills moment used closed = left refl
 
-read_whole_by : (there : Option Response) (at : At) (flow : Flow) (side : ℕ) (answer : Timed Reply) (used : Used) (closed : Bool) →
-    IsKept (Some side) (side_of (turn_response there (λ response. taken_at_response_body response answer.value) (λ taken. turn_taken_whole at flow side taken answer.moment used closed)).stage)
-read_whole_by None at flow side answer used closed = left refl
-read_whole_by (Some response) at flow side answer used closed = taken_whole_side at flow side (taken_at_response_body response answer.value) answer.moment used closed
+read_whole_by : (there : Option Response) (at : At) (flow : Flow) (side : ℕ) (how : Sent) (answer : Timed Reply) (used : Used) (closed : Bool) →
+    IsKept (Some side) (side_of (turn_response there (λ response. taken_at_response_body response answer.value) (λ taken. turn_taken_whole at flow side how taken answer.moment used closed)).stage)
+read_whole_by None at flow side how answer used closed = left refl
+read_whole_by (Some response) at flow side how answer used closed = taken_whole_side at flow side how (taken_at_response_body response answer.value) answer.moment used closed
 
-returned_side : (at : At) (flow : Flow) (side : ℕ) (item : Item ReadResponse) (seen : Sight) (answer : Timed Reply) →
-    IsKept (Some side) (side_of (turn_returned at flow side item seen answer).stage)
-returned_side at flow side missing seen answer = left refl
-returned_side at flow side (part head body) seen answer = left refl
-returned_side at flow side (complete head body trailers size) seen answer =
+returned_side : (at : At) (flow : Flow) (side : ℕ) (how : Sent) (item : Item ReadResponse) (seen : Sight) (answer : Timed Reply) →
+    IsKept (Some side) (side_of (turn_returned at flow side how item seen answer).stage)
+returned_side at flow side how missing seen answer = left refl
+returned_side at flow side how (part head body) seen answer = left refl
+returned_side at flow side how (complete head body trailers size) seen answer =
     let whole : Flow = with_returned flow body.content trailers seen.now in
-    read_whole_by whole.response at whole side answer (server_in side seen) seen.closed
-returned_side at flow side (bad_head fault) seen answer = left refl
-returned_side at flow side (bad_body fault head body) seen answer = left refl
+    read_whole_by whole.response at whole side how answer (server_in side seen) seen.closed
+returned_side at flow side how (bad_head fault) seen answer = left refl
+returned_side at flow side how (bad_body fault head body) seen answer = left refl
 
 taken_given_side : (at : At) (flow : Flow) (taken : Taken Response) (moment : ℕ) (parked : Used) (closed : Bool) →
     IsKept (side_parked at.parked) (side_of (turn_taken_given at flow taken moment parked closed).stage)
@@ -516,26 +679,26 @@ kept_from : (from : Stage) (before later : Option ℕ) → dials_at from ≡ fal
 kept_from from before later dials is (kept same) = same_server dials (same ∙ sym is)
 kept_from from before later dials is (left none) = no_side none
 
-dial_side : (place : Place) (at : At) (flow : Flow) (answer : Reply) → IsSideFrom (busy at flow connection) (side_of (dial_leads place at flow answer))
-dial_side place at flow reply.Dialled = is_new at flow refl refl
-dial_side place at flow (reply.Refused fault) = no_side refl
-dial_side place at flow (reply.Go given stream) = no_side refl
-dial_side place at flow (reply.Respond response) = no_side refl
-dial_side place at flow reply.Kill = no_side refl
-dial_side place at flow reply.Discard = no_side refl
+dial_side : (place : Place) (at : At) (flow : Flow) (how : Sent) (answer : Reply) → IsSideFrom (busy at flow (connection how)) (side_of (dial_leads place at flow how answer))
+dial_side place at flow how reply.Dialled = is_new at flow how refl refl
+dial_side place at flow how (reply.Refused fault) = no_side refl
+dial_side place at flow how (reply.Go given stream) = no_side refl
+dial_side place at flow how (reply.Respond response) = no_side refl
+dial_side place at flow how reply.Kill = no_side refl
+dial_side place at flow how reply.Discard = no_side refl
 
 -- Where a reply leads, the server's side is none, a new one, or that of before.
 pub side_turned : (terms : Terms) (stage : Stage) (seen : Sight) (answer : Timed Reply) → IsSideFrom stage (side_of (turn terms stage seen answer).stage)
 side_turned terms (idle at) seen answer =
     kept_from (idle at) (side_parked at.parked) _ refl refl (head_side terms at (request_in seen) seen answer)
-side_turned terms (busy at flow (request_body given)) seen answer =
-    kept_from (busy at flow (request_body given)) (side_parked at.parked) _ refl refl (turned_body_side terms.place at flow (request_in seen) seen answer)
-side_turned terms (busy at flow connection) seen answer = dial_side terms.place at flow answer.value
+side_turned terms (busy at flow (request_body given size)) seen answer =
+    kept_from (busy at flow (request_body given size)) (side_parked at.parked) _ refl refl (turned_body_side terms.place at flow (request_in seen) seen answer)
+side_turned terms (busy at flow (connection how)) seen answer = dial_side terms.place at flow how answer.value
 side_turned terms (busy at flow (response_head side how)) seen answer =
-    kept_from (busy at flow (response_head side how)) (Some side) _ refl refl (answer_side terms at flow side (answers_in flow.request seen).final seen answer)
+    kept_from (busy at flow (response_head side how)) (Some side) _ refl refl (answer_side terms at flow side how (answers_in flow.request seen).final seen answer)
 side_turned terms (busy at flow (response_body side how most)) seen answer =
     kept_from (busy at flow (response_body side how most)) (Some side) _ refl refl
-    (returned_side at flow side (answers_in flow.request seen).final seen answer)
+    (returned_side at flow side how (answers_in flow.request seen).final seen answer)
 side_turned terms (busy at flow (coming_down side how)) seen answer = no_side refl
 side_turned terms (busy at flow (upgraded side)) seen answer = no_side refl
 side_turned terms (busy at flow given_head) seen answer =
@@ -546,9 +709,9 @@ side_turned terms (next at) seen answer = kept_from (next at) (side_parked at.pa
 side_turned terms over seen answer = no_side refl
 
 -- and sees the same behind a reply
-pub behind_onward : (onward : Stage → Stage) → IsOnward onward → (from : Stage) (seen : Sight) (moment : ℕ) (to : Stage) →
-    sight_behind from seen moment (onward to) ≡ sight_behind from seen moment to
-behind_onward onward goes from seen moment to = ap (λ side. sight_behind_by from seen moment side) (side_onward onward goes to)
+pub behind_onward : (onward : Stage → Stage) → IsOnward onward → (place : Place) (from : Stage) (seen : Sight) (moment : ℕ) (to : Stage) →
+    sight_behind place from seen moment (onward to) ≡ sight_behind place from seen moment to
+behind_onward onward goes place from seen moment to = ap (λ side. sight_behind_by place from seen moment side) (side_onward onward goes to)
 
 -- So is it where the next flow begins.
 pub onward_from : (onward : Stage → Stage) → IsOnward onward → (terms : Terms) (stage : Stage) (seen : Sight) (answer : Timed Reply) →
@@ -560,8 +723,8 @@ onward_from onward goes terms stage seen answer =
 
 -- What the stage sees that a reply led to, over the same prefix.
 pub sight_turned : (onward : Stage → Stage) → IsOnward onward → (terms : Terms) (place : Standing) (prefix : List (Timed Event)) (answer : Timed Reply) →
-    sight_over (stands place answer.moment prefix (onward (turn terms place.stage (sight_over place prefix) answer).stage)) prefix
-    ≡ sight_behind place.stage (sight_over place prefix) answer.moment (onward (turn terms place.stage (sight_over place prefix) answer).stage)
+    sight_over (stands terms place answer.moment prefix (onward (turn terms place.stage (sight_over place prefix) answer).stage)) prefix
+    ≡ sight_behind terms.place place.stage (sight_over place prefix) answer.moment (onward (turn terms place.stage (sight_over place prefix) answer).stage)
 sight_turned onward goes terms place prefix answer =
     let seen : Sight = sight_over place prefix in
-    sight_stood place answer.moment prefix (onward (turn terms place.stage seen answer).stage) (onward_from onward goes terms place.stage seen answer)
+    sight_stood terms place answer.moment prefix (onward (turn terms place.stage seen answer).stage) (onward_from onward goes terms place.stage seen answer)

@@ -1,8 +1,7 @@
 -- What a conversation sends goes to servers that are connected: those that were dialled before its stage, of which the side that is open
 -- is one. And before the first move nobody is sent anything.
 use Rattle.std.proofs.Common.{◌≡◌, ℕ, ◌+◌, ◌≤◌, ◌<◌, Bool, true, false, cond, List, [], ◌∷◌, ◌++◌, Option, Some, None, refl, ap, ◌∙◌, arith}
-use Rattle.std.specs.Prelude.{⊤, ◌==◌, map}
-use Rattle.std.proofs.lemmas.Bool.{eqb-true}
+use Rattle.std.specs.Prelude.{⊤, ◌==◌, ◌&&◌, map}
 use Rattle.px_message.specs.declared.fault.Fault.{Fault}
 use Rattle.px_message.specs.declared.fault.Fault.TheVariants.{BadResponse}
 use Rattle.px_message.specs.declared.flow.Flow.{Flow}
@@ -31,7 +30,7 @@ use Rattle.px_exchange.specs.declared.place.Place.{Place}
 use Rattle.px_exchange.specs.declared.taken.Taken.{Taken}
 use Rattle.px_exchange.specs.declared.taken.Taken.TheVariants.{GoesOn, Responds, Kills}
 use Rattle.px_exchange.specs.declared.terms.Terms.{Terms}
-use Rattle.px_exchange.specs.Dials.{connected_owes, dial_owes}
+use Rattle.px_exchange.specs.Dials.{connected_owes}
 use Rattle.px_exchange.specs.Endings.{shut_all, shut_server, shut_client, shut_unless, without_response, killed_message, closed_message, ends_early, ends_by_fault, refuses, finished, connection_goes_on}
 use Rattle.px_exchange.specs.Finds.{or_leaves, look_head, look_judged, look_body, look_answer, look_answer_head, look_returned, is_relayed}
 use Rattle.px_exchange.specs.Flows.{response_of, with_answer, with_body, with_returned}
@@ -39,13 +38,15 @@ use Rattle.px_exchange.specs.Places.{is_same_address, server_for}
 use Rattle.px_exchange.specs.Replies.{taken_at_request_body, taken_at_request_head, taken_at_response_body, taken_at_response_head}
 use Rattle.px_exchange.specs.Requests.{is_head, expects, flow_of, judged}
 use Rattle.px_exchange.specs.Texts.{meets_expectation, interim_command, interim_commands}
-use Rattle.px_chain.specs.Chain.{IsOnward, begin, behind, behind_flow, dial_leads, find, finish, finish_by, given_at, goes_on_by, http_chain, is_alone, is_sequence, killed, leaving, look, look_coming, parked_for, pass, pass_body, pass_came, pass_kept, passed, sequence, side_if, so_far, turn, turn_answer, turn_answer_head, turn_body, turn_head, turn_judged, turn_response, turn_returned, turn_taken_answer, turn_taken_body, turn_taken_given, turn_taken_head, turn_taken_returned, turn_taken_whole, turn_whole_answer}
+use Rattle.px_chain.specs.Chain.{IsOnward, bad_or, begin, begin_up, begins_going, behind, behind_flow, come_down, dial_leads, dial_owes_by, end_by, end_up, find, finish, finish_by, given_at, goes_on_by, goes_up_by, going_at, gone, gone_by, gone_up, http_chain, is_alone, is_sequence, killed, leaving, look, look_coming, look_up, parked_for, pass, pass_came, pass_given, pass_going, pass_kept, passed, sequence, side_if, sight_begun, sight_gone, so_far, turn, turn_answer, turn_answer_head, turn_body, turn_head, turn_judged, turn_response, turn_returned, turn_taken_answer, turn_taken_body, turn_taken_given, turn_taken_head, turn_taken_returned, turn_taken_whole, turn_whole_answer}
 use Rattle.px_chain.specs.Silent.{NoAnswer, ParkedBelow, connects, connections}
 use Rattle.px_chain.specs.Sights.{Sight, Standing, answers_in, request_in, server_in, server_parked, sight_over}
-use Rattle.px_chain.specs.Stages.{At, Parked, Stage, busy, coming_down, connection, given_body, given_head, idle, next, over, place_of, request_body, response_body, response_head, side_in, side_of, side_parked, unparked, upgraded, Sent}
+use Rattle.px_chain.specs.Stages.{At, Parked, Stage, busy, coming_down, connection, given_body, given_head, idle, next, over, place_of, request_body, response_body, response_head, side_in, side_of, side_parked, unparked, upgraded, Doing, Sent, all_sent, going_up}
 use Rattle.px_chain.proofs.CountedLemmas.{Counts, CountsServers, IsSilent, counted_from, counted_silent, silent_both}
+use Rattle.px_chain.proofs.NotUp.{IsNotUp, IsNotUpBy, gone_not_up, gone_other, other_server}
 use Rattle.px_chain.proofs.SightLaws.{side_onward}
-use Rattle.px_chain.specs.Coming.{Came, allowed_by, came_in, goes_on_behind, streaming, streams_in}
+use Rattle.px_chain.specs.Coming.{Came, allowed_by, came_in, finished_coming, goes_on_behind, sends_coming, streaming, streams_in}
+use Rattle.px_chain.specs.Going.{allowed_up_by, is_sent, sending_on, sends_going, whole_in, with_whole}
 use Rattle.px_write.specs.Error.{fault_message}
 
 -- how many servers were dialled before the stage's flow dials
@@ -87,14 +88,14 @@ IsBetween was least most over = ⊤
 
 -- the server is none that a reply can send to at this stage
 abbrev pub IsBeyond : ℕ → Reply → Stage → Type 0
-IsBeyond server answer (busy at flow (request_body given)) = at.dials ≤ server
-IsBeyond server answer (busy at flow connection) = at.dials + connects answer ≤ server
+IsBeyond server answer (busy at flow (request_body given size)) = at.dials ≤ server
+IsBeyond server answer (busy at flow (connection how)) = at.dials + connects answer ≤ server
 IsBeyond server answer stage = ⊤
 
 pub beyond_by : (server : ℕ) (answer : Reply) (stage : Stage) → dialled stage + connects answer ≤ server → IsBeyond server answer stage
 beyond_by server answer (idle at) before = tt
-beyond_by server answer (busy at flow (request_body given)) before = omega arith
-beyond_by server answer (busy at flow connection) before = before
+beyond_by server answer (busy at flow (request_body given size)) before = omega arith
+beyond_by server answer (busy at flow (connection how)) before = before
 beyond_by server answer (busy at flow (response_head side how)) before = tt
 beyond_by server answer (busy at flow (response_body side how most)) before = tt
 beyond_by server answer (busy at flow (coming_down side how)) before = tt
@@ -117,6 +118,23 @@ pub for_below : (place : Place) (request : Request) (parked : Option Parked) (di
     SideBelow (parked_for place request parked) dials
 for_below place request None dials below = tt
 for_below place request (Some parked) dials below = side_if_below (is_same_address parked.address (server_for place request)) parked.server dials below
+
+-- a server behind those that were dialled is none that a request goes up to
+pub not_up_below : (server : ℕ) (stage : Stage) → ServersBelow stage → dialled stage ≤ server → IsNotUp server stage
+not_up_below server (idle at) below few = tt
+not_up_below server (busy at flow (request_body given size)) below few = tt
+not_up_below server (busy at flow (connection how)) below few = tt
+not_up_below server (busy at flow (response_head side all_sent)) below few = tt
+not_up_below server (busy at flow (response_head side going_up)) below few = other_server server side (omega arith) (side == server) refl
+not_up_below server (busy at flow (response_body side all_sent most)) below few = tt
+not_up_below server (busy at flow (response_body side going_up most)) below few = other_server server side (omega arith) (side == server) refl
+not_up_below server (busy at flow (coming_down side all_sent)) below few = tt
+not_up_below server (busy at flow (coming_down side going_up)) below few = other_server server side (omega arith) (side == server) refl
+not_up_below server (busy at flow (upgraded side)) below few = tt
+not_up_below server (busy at flow given_head) below few = tt
+not_up_below server (busy at flow given_body) below few = tt
+not_up_below server (next at) below few = tt
+not_up_below server over below few = tt
 
 module _ (server : ℕ) where
   -- a close has no bytes
@@ -164,25 +182,38 @@ module _ (server : ℕ) where
   interim_by versions.Http10 message heads is = rw is refl
   interim_by versions.Http11 message heads is = rw is (interim_silent heads)
 
-  pub so_far_silent : (stage : Stage) (seen : Sight) → IsSilent server (so_far stage seen)
-  so_far_silent (idle at) seen = refl
-  so_far_silent (busy at flow (request_body given)) seen = refl
-  so_far_silent (busy at flow connection) seen = refl
-  so_far_silent (busy at flow (response_head side how)) seen = interim_by flow.request.version flow.request _ refl
-  so_far_silent (busy at flow (response_body side how most)) seen = refl
-  so_far_silent (busy at flow (coming_down side how)) seen = refl
-  so_far_silent (busy at flow (upgraded side)) seen = refl
-  so_far_silent (busy at flow given_head) seen = refl
-  so_far_silent (busy at flow given_body) seen = refl
-  so_far_silent (next at) seen = refl
-  so_far_silent over seen = refl
+  -- the request goes up to another server, or to none
+  pub up_silent : (place : Place) (flow : Flow) (side : ℕ) (seen : Sight) → (side == server) ≡ false → IsSilent server (sends_going place flow side seen)
+  up_silent place flow side seen other = rw other refl
+
+  pub waits_silent : (message : Request) (heads : List ReadResponse) → IsSilent server (interim_commands message heads)
+  waits_silent message heads = interim_by message.version message heads refl
+
+  pub so_far_silent : (terms : Terms) (stage : Stage) (seen : Sight) → IsNotUp server stage → IsSilent server (so_far terms stage seen)
+  so_far_silent terms (idle at) seen other = refl
+  so_far_silent terms (busy at flow (request_body given size)) seen other = refl
+  so_far_silent terms (busy at flow (connection how)) seen other = refl
+  so_far_silent terms (busy at flow (response_head side all_sent)) seen other = waits_silent flow.request _
+  so_far_silent terms (busy at flow (response_head side going_up)) seen other =
+      silent_both server (sends_going terms.place flow side seen) (interim_commands flow.request (answers_in flow.request seen).interim) (up_silent terms.place flow side seen other)
+      (waits_silent flow.request (answers_in flow.request seen).interim)
+  so_far_silent terms (busy at flow (response_body side all_sent most)) seen other = refl
+  so_far_silent terms (busy at flow (response_body side going_up most)) seen other = up_silent terms.place flow side seen other
+  so_far_silent terms (busy at flow (coming_down side all_sent)) seen other = refl
+  so_far_silent terms (busy at flow (coming_down side going_up)) seen other =
+      silent_both server (sends_going terms.place flow side seen) (sends_coming flow seen) (up_silent terms.place flow side seen other) refl
+  so_far_silent terms (busy at flow (upgraded side)) seen other = refl
+  so_far_silent terms (busy at flow given_head) seen other = refl
+  so_far_silent terms (busy at flow given_body) seen other = refl
+  so_far_silent terms (next at) seen other = refl
+  so_far_silent terms over seen other = refl
 
   -- ---- behind an ask
 
   pub behind_silent : (stage : Stage) (seen : Sight) → IsSilent server (behind stage seen)
   behind_silent (idle at) seen = refl
-  behind_silent (busy at flow (request_body given)) seen = refl
-  behind_silent (busy at flow connection) seen = server_silent (server_parked at.parked seen)
+  behind_silent (busy at flow (request_body given size)) seen = refl
+  behind_silent (busy at flow (connection how)) seen = server_silent (server_parked at.parked seen)
   behind_silent (busy at flow (response_head side how)) seen = refl
   behind_silent (busy at flow (response_body side how most)) seen = refl
   behind_silent (busy at flow (coming_down side how)) seen = refl
@@ -194,28 +225,60 @@ module _ (server : ℕ) where
 
   -- ---- where it passes
 
-  came_silent : (at : At) (flow : Flow) (side : ℕ) (how : Sent) (seen : Sight) (came : Option Came) → IsSilent server (pass_came at flow side how seen came).owed
-  came_silent at flow side how seen None = refl
-  came_silent at flow side how seen (Some came) =
-      let stays : Bool = goes_on_behind at.flow flow.request came in
+  -- behind what of its request is sent
+  pub finished_down : (at : At) (flow : Flow) (side : ℕ) (seen : Sight) (stays : Bool) → IsSilent server (finished_coming flow seen (server_in side seen) ++ shut_unless stays NoServer seen.closed)
+  finished_down at flow side seen stays =
       silent_both server (shut_server (server_in side seen)) (shut_unless stays NoServer seen.closed) (server_silent (server_in side seen)) (unless_silent stays NoServer seen.closed)
 
-  kept_silent : (streams : Bool) (at : At) (flow : Flow) (side : ℕ) (how : Sent) (most : Option ℕ) (seen : Sight) → IsSilent server (pass_kept streams at flow side how most seen).owed
-  kept_silent true at flow side how most seen = came_silent at (streaming flow) side how seen (came_in (streaming flow) seen)
-  kept_silent false at flow side how most seen = refl
+  pub came_silent : (place : Place) (at : At) (flow : Flow) (side : ℕ) (how : Sent) (seen : Sight) (came : Option Came) → IsNotUpBy server (going_at (coming_down side how)) →
+      IsSilent server (pass_came place at flow side how seen came).owed
+  came_silent place at flow side how seen None other = refl
+  came_silent place at flow side all_sent seen (Some came) other = finished_down at flow side seen (is_sent all_sent && goes_on_behind at.flow flow.request came)
+  came_silent place at flow side going_up seen (Some came) other =
+      let stays : Bool = is_sent going_up && goes_on_behind at.flow flow.request came in
+      silent_both server (sends_going place flow side seen) (finished_coming flow seen (server_in side seen) ++ shut_unless stays NoServer seen.closed) (up_silent place flow side seen other)
+      (finished_down at flow side seen stays)
 
-  pub pass_silent : (stage : Stage) (seen : Sight) → IsSilent server (pass stage seen).owed
-  pass_silent (idle at) seen = refl
-  pass_silent (busy at flow (request_body given)) seen = refl
-  pass_silent (busy at flow connection) seen = refl
-  pass_silent (busy at flow (response_head side how)) seen = refl
-  pass_silent (busy at flow (response_body side how most)) seen = kept_silent (streams_in flow most seen) at flow side how most seen
-  pass_silent (busy at flow (coming_down side how)) seen = came_silent at flow side how seen (came_in flow seen)
-  pass_silent (busy at flow (upgraded side)) seen = refl
-  pass_silent (busy at flow given_head) seen = refl
-  pass_silent (busy at flow given_body) seen = refl
-  pass_silent (next at) seen = refl
-  pass_silent over seen = refl
+  kept_silent : (streams : Bool) (place : Place) (at : At) (flow : Flow) (side : ℕ) (how : Sent) (most : Option ℕ) (seen : Sight) → IsNotUpBy server (going_at (coming_down side how)) →
+      IsSilent server (pass_kept streams place at flow side how most seen).owed
+  kept_silent true place at flow side how most seen other = came_silent place at (streaming flow) side how seen (came_in (streaming flow) seen) other
+  kept_silent false place at flow side how most seen other = refl
+
+  come_silent : (terms : Terms) (stage : Stage) (seen : Sight) → IsNotUp server stage → IsSilent server (come_down terms stage seen).owed
+  come_silent terms (idle at) seen other = refl
+  come_silent terms (busy at flow (request_body given size)) seen other = refl
+  come_silent terms (busy at flow (connection how)) seen other = refl
+  come_silent terms (busy at flow (response_head side how)) seen other = refl
+  come_silent terms (busy at flow (response_body side all_sent most)) seen other = kept_silent (streams_in flow most seen) terms.place at flow side all_sent most seen other
+  come_silent terms (busy at flow (response_body side going_up most)) seen other = kept_silent (streams_in flow most seen) terms.place at flow side going_up most seen other
+  come_silent terms (busy at flow (coming_down side how)) seen other = came_silent terms.place at flow side how seen (came_in flow seen) other
+  come_silent terms (busy at flow (upgraded side)) seen other = refl
+  come_silent terms (busy at flow given_head) seen other = refl
+  come_silent terms (busy at flow given_body) seen other = refl
+  come_silent terms (next at) seen other = refl
+  come_silent terms over seen other = refl
+
+  -- it is whole, and then goes up to none
+  ended_silent : (g : Option ℕ) (terms : Terms) (at : At) (flow : Flow) (doing : Doing) (seen : Sight) → gone_by (going_at doing) (whole_in seen) ≡ g → IsNotUpBy server (going_at doing) →
+      IsSilent server (end_by g terms.place at flow doing seen).owed × IsNotUp server (end_by g terms.place at flow doing seen).stage
+  ended_silent None terms at flow doing seen is other = (refl, other)
+  ended_silent (Some side) terms at flow doing seen is other =
+      (up_silent terms.place flow side seen (gone_other server (going_at doing) (whole_in seen) side is other), gone_not_up server doing)
+
+  pub end_silent : (terms : Terms) (stage : Stage) (seen : Sight) → IsNotUp server stage → IsSilent server (end_up terms stage seen).owed × IsNotUp server (end_up terms stage seen).stage
+  end_silent terms (idle at) seen other = (refl, tt)
+  end_silent terms (busy at flow doing) seen other = ended_silent (gone_by (going_at doing) (whole_in seen)) terms at flow doing seen refl other
+  end_silent terms (next at) seen other = (refl, tt)
+  end_silent terms over seen other = (refl, tt)
+
+  -- where no request goes up to the server, or begins to
+  pub pass_silent : (terms : Terms) (stage : Stage) (seen : Sight) → IsNotUp server (begin_up terms stage seen) → IsSilent server (pass terms stage seen).owed
+  pass_silent terms stage seen other =
+      let begun : Stage = begin_up terms stage seen in
+      let left : Sight = sight_begun stage seen in
+      let ended = end_silent terms begun left other in
+      silent_both server (end_up terms begun left).owed (come_down terms (gone_up terms stage seen) (sight_gone terms stage seen)).owed ended.0
+      (come_silent terms (gone_up terms stage seen) (sight_gone terms stage seen) ended.1)
 
   -- ---- what is found
 
@@ -265,16 +328,33 @@ module _ (server : ℕ) where
     coming_silent flow (bad_head fault) moment used closed = refl
     coming_silent flow (bad_body fault head body) moment used closed = early_silent flow (fault_message fault) moment used closed
 
+    -- a bad body of a request that goes up is found first
+    bad_silent : (item : Item ReadRequest) (ends : Fault → List Command) (l : Look Command) → ((fault : Fault) → IsSilent server (ends fault)) → IsSilent server (found l) →
+        IsSilent server (found (bad_or item ends l))
+    bad_silent missing ends l silent is = is
+    bad_silent (part head body) ends l silent is = is
+    bad_silent (complete head body trailers size) ends l silent is = is
+    bad_silent (bad_head fault) ends l silent is = is
+    bad_silent (bad_body fault head body) ends l silent is = silent fault
+
+    looks_up_silent : (how : Sent) (seen : Sight) (ends : Fault → List Command) (l : Look Command) → ((fault : Fault) → IsSilent server (ends fault)) → IsSilent server (found l) →
+        IsSilent server (found (look_up how seen ends l))
+    looks_up_silent all_sent seen ends l silent is = is
+    looks_up_silent going_up seen ends l silent is = bad_silent (request_in seen) ends l silent is
+
     finds_silent : (stage : Stage) (seen : Sight) → IsSilent server (found (find terms stage seen))
     finds_silent (idle at) seen = head_silent at.flow (request_in seen) seen.now (server_parked at.parked seen) seen.closed
-    finds_silent (busy at flow (request_body given)) seen = body_silent flow (request_in seen) seen.now (server_parked at.parked seen) seen.closed
-    finds_silent (busy at flow connection) seen = refl
+    finds_silent (busy at flow (request_body given size)) seen = body_silent flow (request_in seen) seen.now (server_parked at.parked seen) seen.closed
+    finds_silent (busy at flow (connection how)) seen = refl
     finds_silent (busy at flow (response_head side how)) seen =
-        answer_silent flow (answers_in flow.request seen).final seen.now (server_in side seen) seen.closed
+        looks_up_silent how seen _ _ (λ fault. fault_silent flow fault seen.now (server_in side seen) seen.closed)
+        (answer_silent flow (answers_in flow.request seen).final seen.now (server_in side seen) seen.closed)
     finds_silent (busy at flow (response_body side how most)) seen =
-        returned_silent flow (answers_in flow.request seen).final seen.now (server_in side seen) seen.closed
+        looks_up_silent how seen _ _ (λ fault. fault_silent flow fault seen.now (server_in side seen) seen.closed)
+        (returned_silent flow (answers_in flow.request seen).final seen.now (server_in side seen) seen.closed)
     finds_silent (busy at flow (coming_down side how)) seen =
-        coming_silent flow (answers_in flow.request seen).final seen.now (server_in side seen) seen.closed
+        looks_up_silent how seen _ _ (λ fault. early_silent flow (fault_message fault) seen.now (server_in side seen) seen.closed)
+        (coming_silent flow (answers_in flow.request seen).final seen.now (server_in side seen) seen.closed)
     finds_silent (busy at flow (upgraded side)) seen = refl
     finds_silent (busy at flow given_head) seen = refl
     finds_silent (busy at flow given_body) seen = refl
@@ -283,8 +363,8 @@ module _ (server : ℕ) where
 
     leaving_silent : (stage : Stage) (seen : Sight) → IsSilent server (leaving stage seen)
     leaving_silent (idle at) seen = server_silent (server_parked at.parked seen)
-    leaving_silent (busy at flow (request_body given)) seen = early_silent flow closed_message seen.now (server_parked at.parked seen) true
-    leaving_silent (busy at flow connection) seen = refl
+    leaving_silent (busy at flow (request_body given size)) seen = early_silent flow closed_message seen.now (server_parked at.parked seen) true
+    leaving_silent (busy at flow (connection how)) seen = refl
     leaving_silent (busy at flow (response_head side how)) seen = early_silent flow closed_message seen.now (server_in side seen) true
     leaving_silent (busy at flow (response_body side how most)) seen = early_silent (without_response flow) closed_message seen.now (server_in side seen) true
     leaving_silent (busy at flow (coming_down side how)) seen = early_silent flow closed_message seen.now (server_in side seen) true
@@ -331,16 +411,16 @@ module _ (server : ℕ) where
       expectation_silent true = refl
       expectation_silent false = refl
 
-      taken_head_leads : (at : At) (flow : Flow) (expected : Bool) (taken : Taken Request) (moment : ℕ) (seen : Sight) → Stays at → Leads was least most (turn_taken_head at flow expected taken moment seen)
-      taken_head_leads at flow expected (GoesOn message) moment seen stays = (expectation_silent expected, stays)
-      taken_head_leads at flow expected (Responds response) moment seen stays = (expectation_silent expected, stays)
-      taken_head_leads at flow expected Kills moment seen stays = killed_leads flow moment (server_parked at.parked seen) seen.closed
+      taken_head_leads : (at : At) (flow : Flow) (expected : Bool) (size : Option ℕ) (taken : Taken Request) (moment : ℕ) (seen : Sight) → Stays at → Leads was least most (turn_taken_head at flow expected size taken moment seen)
+      taken_head_leads at flow expected size (GoesOn message) moment seen stays = (expectation_silent expected, stays)
+      taken_head_leads at flow expected size (Responds response) moment seen stays = (expectation_silent expected, stays)
+      taken_head_leads at flow expected size Kills moment seen stays = killed_leads flow moment (server_parked at.parked seen) seen.closed
 
       judged_leads : (at : At) (head : ReadRequest) (made : Judged) (seen : Sight) (answer : Timed Reply) → Stays at → Leads was least most (turn_judged terms at head made seen answer)
       judged_leads at head (Refused fault) seen answer stays = over_leads [] refl
       judged_leads at head (Connects address) seen answer stays = over_leads [] refl
       judged_leads at head (Accepted message) seen answer stays =
-          taken_head_leads at (flow_of terms at.flow message seen.now) (expects head) (taken_at_request_head message answer.value) answer.moment seen stays
+          taken_head_leads at (flow_of terms at.flow message seen.now) (expects head) (allowed_up_by terms.streams answer.value) (taken_at_request_head message answer.value) answer.moment seen stays
 
       head_leads : (at : At) (item : Item ReadRequest) (seen : Sight) (answer : Timed Reply) → Stays at → Leads was least most (turn_head terms at item seen answer)
       head_leads at missing seen answer stays = over_leads [] refl
@@ -349,14 +429,9 @@ module _ (server : ℕ) where
       head_leads at (bad_head fault) seen answer stays = over_leads [] refl
       head_leads at (bad_body fault head body) seen answer stays = judged_leads at head (judged terms.place head) seen answer stays
 
-      -- this server is another one
-      other_server : (number : ℕ) → number + 1 ≤ server → (other : Bool) → (number == server) ≡ other → other ≡ false
-      other_server number before false is = refl
-      other_server number before true is = let same = eqb-true number server is in absurd (let no : ⊥ = omega arith in no)
-
       connected_silent : (place : Place) (flow : Flow) (number : ℕ) → number + 1 ≤ server → IsSilent server (connected_owes place flow number)
       connected_silent place flow number before =
-          let other : (number == server) ≡ false = other_server number before (number == server) refl in rw other refl
+          let other : (number == server) ≡ false = other_server server number before (number == server) refl in rw other refl
 
       goes_on_leads : (side : Option ℕ) (place : Place) (at : At) (flow : Flow) → Stays at → at.dials ≤ server → SideBelow side at.dials →
           Leads was least most (goes_on_by side place at flow)
@@ -380,38 +455,38 @@ module _ (server : ℕ) where
       body_leads place at flow (bad_head fault) seen answer stays before = over_leads [] refl
       body_leads place at flow (bad_body fault head body) seen answer stays before = over_leads [] refl
 
-      taken_answer_leads : (at : At) (flow : Flow) (side : ℕ) (allowed : Option ℕ) (taken : Taken Response) (moment : ℕ) (used : Used) (closed : Bool) → Few at → side < at.dials →
-          Leads was least most (turn_taken_answer at flow side allowed taken moment used closed)
-      taken_answer_leads at flow side allowed (GoesOn message) moment used closed few below = (refl, (few, below))
-      taken_answer_leads at flow side allowed (Responds response) moment used closed few below = killed_leads (without_response flow) moment used closed
-      taken_answer_leads at flow side allowed Kills moment used closed few below = killed_leads (without_response flow) moment used closed
+      taken_answer_leads : (at : At) (flow : Flow) (side : ℕ) (how : Sent) (allowed : Option ℕ) (taken : Taken Response) (moment : ℕ) (used : Used) (closed : Bool) → Few at → side < at.dials →
+          Leads was least most (turn_taken_answer at flow side how allowed taken moment used closed)
+      taken_answer_leads at flow side how allowed (GoesOn message) moment used closed few below = (refl, (few, below))
+      taken_answer_leads at flow side how allowed (Responds response) moment used closed few below = killed_leads (without_response flow) moment used closed
+      taken_answer_leads at flow side how allowed Kills moment used closed few below = killed_leads (without_response flow) moment used closed
 
-      answer_head_leads : (at : At) (flow : Flow) (side : ℕ) (head : ReadResponse) (seen : Sight) (answer : Timed Reply) → Few at → side < at.dials →
-          Leads was least most (turn_answer_head terms at flow side head seen answer)
-      answer_head_leads at flow side head seen answer few below =
-          taken_answer_leads at (with_answer flow (response_of head) seen.now) side (allowed_by terms.streams answer.value) (taken_at_response_head (response_of head) answer.value) answer.moment (server_in side seen) seen.closed few below
+      answer_head_leads : (at : At) (flow : Flow) (side : ℕ) (how : Sent) (head : ReadResponse) (seen : Sight) (answer : Timed Reply) → Few at → side < at.dials →
+          Leads was least most (turn_answer_head terms at flow side how head seen answer)
+      answer_head_leads at flow side how head seen answer few below =
+          taken_answer_leads at (with_answer flow (response_of head) seen.now) side how (allowed_by terms.streams answer.value) (taken_at_response_head (response_of head) answer.value) answer.moment (server_in side seen) seen.closed few below
 
-      answer_leads : (at : At) (flow : Flow) (side : ℕ) (item : Item ReadResponse) (seen : Sight) (answer : Timed Reply) → Few at → side < at.dials →
-          Leads was least most (turn_answer terms at flow side item seen answer)
-      answer_leads at flow side missing seen answer few below = over_leads [] refl
-      answer_leads at flow side (part head body) seen answer few below = answer_head_leads at flow side head seen answer few below
-      answer_leads at flow side (complete head body trailers size) seen answer few below = answer_head_leads at flow side head seen answer few below
-      answer_leads at flow side (bad_head fault) seen answer few below = over_leads [] refl
-      answer_leads at flow side (bad_body fault head body) seen answer few below = answer_head_leads at flow side head seen answer few below
+      answer_leads : (at : At) (flow : Flow) (side : ℕ) (how : Sent) (item : Item ReadResponse) (seen : Sight) (answer : Timed Reply) → Few at → side < at.dials →
+          Leads was least most (turn_answer terms at flow side how item seen answer)
+      answer_leads at flow side how missing seen answer few below = over_leads [] refl
+      answer_leads at flow side how (part head body) seen answer few below = answer_head_leads at flow side how head seen answer few below
+      answer_leads at flow side how (complete head body trailers size) seen answer few below = answer_head_leads at flow side how head seen answer few below
+      answer_leads at flow side how (bad_head fault) seen answer few below = over_leads [] refl
+      answer_leads at flow side how (bad_body fault head body) seen answer few below = answer_head_leads at flow side how head seen answer few below
 
       behind_leads : (at : At) (owed : List Command) (goes_on : Bool) → IsSilent server owed → Stays at → Leads was least most (record { owed = owed; stage = behind_flow goes_on at })
       behind_leads at owed true silent stays = (silent, stays)
       behind_leads at owed false silent stays = over_leads owed silent
 
-      finish_leads : (at : At) (flow : Flow) (message : Response) (used parked : Used) (closed : Bool) → Stays at → Leads was least most (finish at flow message used parked closed)
-      finish_leads at flow message used parked closed stays =
-          let goes_on : Bool = connection_goes_on at.flow flow.request message in
+      finish_leads : (at : At) (flow : Flow) (how : Sent) (message : Response) (used parked : Used) (closed : Bool) → Stays at → Leads was least most (finish at flow how message used parked closed)
+      finish_leads at flow how message used parked closed stays =
+          let goes_on : Bool = is_sent how && connection_goes_on at.flow flow.request message in
           behind_leads at (finished flow message used ++ shut_unless goes_on parked closed) goes_on
           (silent_both server (finished flow message used) (shut_unless goes_on parked closed) (finished_silent flow message used) (unless_silent goes_on parked closed)) stays
 
       taken_returned_leads : (at : At) (flow : Flow) (taken : Taken Response) (moment : ℕ) (parked : Used) (closed : Bool) → Stays at →
           Leads was least most (turn_taken_returned at flow taken moment parked closed)
-      taken_returned_leads at flow (GoesOn message) moment parked closed stays = finish_leads at flow message NoServer parked closed stays
+      taken_returned_leads at flow (GoesOn message) moment parked closed stays = finish_leads at flow all_sent message NoServer parked closed stays
       taken_returned_leads at flow (Responds response) moment parked closed stays = killed_leads flow moment parked closed
       taken_returned_leads at flow Kills moment parked closed stays = killed_leads flow moment parked closed
 
@@ -425,28 +500,28 @@ module _ (server : ℕ) where
           response_leads flow.response (λ message. taken_at_response_body message answer.value) (λ taken. turn_taken_returned at flow taken answer.moment used closed)
           (λ taken. taken_returned_leads at flow taken answer.moment used closed stays)
 
-      finish_by_leads : (switches : Bool) (at : At) (flow : Flow) (message : Response) (side : ℕ) (used : Used) (closed : Bool) → Few at → side < at.dials →
-          Leads was least most (finish_by switches at flow message side used closed)
-      finish_by_leads true at flow message side used closed few below = (refl, (few, below))
-      finish_by_leads false at flow message side used closed few below = finish_leads (unparked at) flow message used NoServer closed (without_it at few, tt)
+      finish_by_leads : (switches : Bool) (at : At) (flow : Flow) (how : Sent) (message : Response) (side : ℕ) (used : Used) (closed : Bool) → Few at → side < at.dials →
+          Leads was least most (finish_by switches at flow how message side used closed)
+      finish_by_leads true at flow how message side used closed few below = (refl, (few, below))
+      finish_by_leads false at flow how message side used closed few below = finish_leads (unparked at) flow how message used NoServer closed (without_it at few, tt)
 
-      taken_whole_leads : (at : At) (flow : Flow) (side : ℕ) (taken : Taken Response) (moment : ℕ) (used : Used) (closed : Bool) → Few at → side < at.dials →
-          Leads was least most (turn_taken_whole at flow side taken moment used closed)
-      taken_whole_leads at flow side (GoesOn message) moment used closed few below = finish_by_leads (message.status == 101) at flow message side used closed few below
-      taken_whole_leads at flow side (Responds response) moment used closed few below = killed_leads flow moment used closed
-      taken_whole_leads at flow side Kills moment used closed few below = killed_leads flow moment used closed
+      taken_whole_leads : (at : At) (flow : Flow) (side : ℕ) (how : Sent) (taken : Taken Response) (moment : ℕ) (used : Used) (closed : Bool) → Few at → side < at.dials →
+          Leads was least most (turn_taken_whole at flow side how taken moment used closed)
+      taken_whole_leads at flow side how (GoesOn message) moment used closed few below = finish_by_leads (is_sent how && message.status == 101) at flow how message side used closed few below
+      taken_whole_leads at flow side how (Responds response) moment used closed few below = killed_leads flow moment used closed
+      taken_whole_leads at flow side how Kills moment used closed few below = killed_leads flow moment used closed
 
-      returned_leads : (at : At) (flow : Flow) (side : ℕ) (item : Item ReadResponse) (seen : Sight) (answer : Timed Reply) → Few at → side < at.dials →
-          Leads was least most (turn_returned at flow side item seen answer)
-      returned_leads at flow side missing seen answer few below = over_leads [] refl
-      returned_leads at flow side (part head body) seen answer few below = over_leads [] refl
-      returned_leads at flow side (complete head body trailers size) seen answer few below =
+      returned_leads : (at : At) (flow : Flow) (side : ℕ) (how : Sent) (item : Item ReadResponse) (seen : Sight) (answer : Timed Reply) → Few at → side < at.dials →
+          Leads was least most (turn_returned at flow side how item seen answer)
+      returned_leads at flow side how missing seen answer few below = over_leads [] refl
+      returned_leads at flow side how (part head body) seen answer few below = over_leads [] refl
+      returned_leads at flow side how (complete head body trailers size) seen answer few below =
           let asked_flow : Flow = with_returned flow body.content trailers seen.now in
           response_leads asked_flow.response (λ message. taken_at_response_body message answer.value)
-          (λ taken. turn_taken_whole at asked_flow side taken answer.moment (server_in side seen) seen.closed)
-          (λ taken. taken_whole_leads at asked_flow side taken answer.moment (server_in side seen) seen.closed few below)
-      returned_leads at flow side (bad_head fault) seen answer few below = over_leads [] refl
-      returned_leads at flow side (bad_body fault head body) seen answer few below = over_leads [] refl
+          (λ taken. turn_taken_whole at asked_flow side how taken answer.moment (server_in side seen) seen.closed)
+          (λ taken. taken_whole_leads at asked_flow side how taken answer.moment (server_in side seen) seen.closed few below)
+      returned_leads at flow side how (bad_head fault) seen answer few below = over_leads [] refl
+      returned_leads at flow side how (bad_body fault head body) seen answer few below = over_leads [] refl
 
       given_leads : (at : At) (flow : Flow) (taken : Taken Response) (moment : ℕ) (parked : Used) (closed : Bool) → Stays at →
           Leads was least most (turn_taken_given at flow taken moment parked closed)
@@ -454,28 +529,34 @@ module _ (server : ℕ) where
       given_leads at flow (Responds response) moment parked closed stays = killed_leads (without_response flow) moment parked closed
       given_leads at flow Kills moment parked closed stays = killed_leads (without_response flow) moment parked closed
 
-      connected_leads : (at : At) (flow : Flow) (answer : Reply) (moment : ℕ) (closed : Bool) → at.dials + connects answer ≤ server → least ≤ at.dials → at.dials + connects answer ≤ most →
-          Leads was least most (record { owed = dial_owes terms.place flow at.dials answer moment closed; stage = dial_leads terms.place at flow answer })
-      connected_leads at flow reply.Dialled moment closed before few many =
+      connected_leads : (at : At) (flow : Flow) (how : Sent) (answer : Reply) (moment : ℕ) (closed : Bool) → at.dials + connects answer ≤ server → least ≤ at.dials → at.dials + connects answer ≤ most →
+          Leads was least most (record { owed = dial_owes_by how terms.place flow at.dials answer moment closed; stage = dial_leads terms.place at flow how answer })
+      connected_leads at flow all_sent reply.Dialled moment closed before few many =
           (connected_silent terms.place flow at.dials before, ((omega arith, many, none_parked refl), omega arith))
-      connected_leads at flow (reply.Refused fault) moment closed before few many = over_leads (ends_by_fault flow fault moment NoServer closed) (fault_silent flow fault moment NoServer closed)
-      connected_leads at flow (reply.Go other stream) moment closed before few many = over_leads [] refl
-      connected_leads at flow (reply.Respond given) moment closed before few many = over_leads [] refl
-      connected_leads at flow reply.Kill moment closed before few many = over_leads [] refl
-      connected_leads at flow reply.Discard moment closed before few many = over_leads [] refl
+      connected_leads at flow all_sent (reply.Refused fault) moment closed before few many = over_leads (ends_by_fault flow fault moment NoServer closed) (fault_silent flow fault moment NoServer closed)
+      connected_leads at flow all_sent (reply.Go other stream) moment closed before few many = over_leads [] refl
+      connected_leads at flow all_sent (reply.Respond given) moment closed before few many = over_leads [] refl
+      connected_leads at flow all_sent reply.Kill moment closed before few many = over_leads [] refl
+      connected_leads at flow all_sent reply.Discard moment closed before few many = over_leads [] refl
+      connected_leads at flow going_up reply.Dialled moment closed before few many = (refl, ((omega arith, many, none_parked refl), omega arith))
+      connected_leads at flow going_up (reply.Refused fault) moment closed before few many = over_leads (ends_by_fault flow fault moment NoServer closed) (fault_silent flow fault moment NoServer closed)
+      connected_leads at flow going_up (reply.Go other stream) moment closed before few many = over_leads [] refl
+      connected_leads at flow going_up (reply.Respond given) moment closed before few many = over_leads [] refl
+      connected_leads at flow going_up reply.Kill moment closed before few many = over_leads [] refl
+      connected_leads at flow going_up reply.Discard moment closed before few many = over_leads [] refl
 
     pub turn_leads : (stage : Stage) (seen : Sight) (answer : Timed Reply) → ServersBelow stage → IsBeyond server answer.value stage →
         Leads (parked_at stage) (dialled stage) (dialled stage + connects answer.value) (turn terms stage seen answer)
     turn_leads (idle at) seen answer below before =
         head_leads at.parked at.dials (at.dials + connects answer.value) at (request_in seen) seen answer ((omega arith, omega arith, same_parked refl), below)
-    turn_leads (busy at flow (request_body given)) seen answer below before =
+    turn_leads (busy at flow (request_body given size)) seen answer below before =
         body_leads at.parked at.dials (at.dials + connects answer.value) terms.place at flow (request_in seen) seen answer ((omega arith, omega arith, same_parked refl), below) before
-    turn_leads (busy at flow connection) seen answer below before =
-        connected_leads at.parked at.dials (at.dials + connects answer.value) at flow answer.value answer.moment seen.closed before (omega arith) (omega arith)
+    turn_leads (busy at flow (connection how)) seen answer below before =
+        connected_leads at.parked at.dials (at.dials + connects answer.value) at flow how answer.value answer.moment seen.closed before (omega arith) (omega arith)
     turn_leads (busy at flow (response_head side how)) seen answer below before =
-        answer_leads at.parked at.dials (at.dials + connects answer.value) at flow side (answers_in flow.request seen).final seen answer (omega arith, omega arith, same_parked refl) below
+        answer_leads at.parked at.dials (at.dials + connects answer.value) at flow side how (answers_in flow.request seen).final seen answer (omega arith, omega arith, same_parked refl) below
     turn_leads (busy at flow (response_body side how most)) seen answer below before =
-        returned_leads at.parked at.dials (at.dials + connects answer.value) at flow side (answers_in flow.request seen).final seen answer
+        returned_leads at.parked at.dials (at.dials + connects answer.value) at flow side how (answers_in flow.request seen).final seen answer
         (omega arith, omega arith, same_parked refl) below
     turn_leads (busy at flow (coming_down side how)) seen answer below before = over_leads at.parked at.dials (at.dials + connects answer.value) [] refl
     turn_leads (busy at flow (upgraded side)) seen answer below before = over_leads at.parked at.dials (at.dials + connects answer.value) [] refl
@@ -493,47 +574,125 @@ module _ (server : ℕ) where
 
 -- ---- passing, and the next flow
 
--- where a flow passes no more servers were dialled, and the one whose side is open is among them
-record PassesBelow (at : At) (side : Option ℕ) (to : Stage) : Type 0 where
-  few : dialled to ≤ at.dials
-  below : SideBelow side at.dials → ServersBelow to
+-- where a conversation passes no more servers were dialled, and the one whose side is open is among them
+record PassesBelow (from to : Stage) : Type 0 where
+  few : dialled to ≤ dialled from
+  below : ServersBelow from → ServersBelow to
 
-body_below : (at : At) (flow : Flow) (given : Option Response) (item : Item ReadRequest) (now : ℕ) → PassesBelow at (side_parked at.parked) (pass_body at flow given item now)
-body_below at flow None item now = record { few = omega arith; below = λ is. is }
-body_below at flow (Some response) missing now = record { few = omega arith; below = λ is. is }
-body_below at flow (Some response) (part head body) now = record { few = omega arith; below = λ is. is }
-body_below at flow (Some response) (complete head body trailers used) now = record { few = omega arith; below = λ is. is }
-body_below at flow (Some response) (bad_head fault) now = record { few = omega arith; below = λ is. is }
-body_below at flow (Some response) (bad_body fault head body) now = record { few = omega arith; below = λ is. is }
+below_both : (from between to : Stage) → PassesBelow from between → PassesBelow between to → PassesBelow from to
+below_both from between to first second =
+    let few = first.few in let fewer = second.few in
+    record { few = omega arith; below = λ is. second.below (first.below is) }
 
-behind_below : (stays : Bool) (at : At) (side : Option ℕ) → PassesBelow at side (behind_flow stays (unparked at))
-behind_below true at side = record { few = omega arith; below = λ is. tt }
-behind_below false at side = record { few = omega arith; below = λ is. tt }
+still_below : (stage : Stage) → PassesBelow stage stage
+still_below stage = record { few = omega arith; below = λ is. is }
 
-came_below : (at : At) (flow : Flow) (side : ℕ) (how : Sent) (seen : Sight) (came : Option Came) → PassesBelow at (Some side) (pass_came at flow side how seen came).stage
-came_below at flow side how seen None = record { few = omega arith; below = λ is. is }
-came_below at flow side how seen (Some came) = behind_below (goes_on_behind at.flow flow.request came) at (Some side)
+up_below : (side : Option ℕ) (place : Place) (at : At) (flow from : Flow) (given : Option Response) (size : Option ℕ) → (SideBelow (side_parked at.parked) at.dials → SideBelow side at.dials) →
+    PassesBelow (busy at from (request_body given size)) (goes_up_by side place at flow)
+up_below None place at flow from given size fits = record { few = omega arith; below = λ is. is }
+up_below (Some server) place at flow from given size fits = record { few = omega arith; below = λ is. fits is }
 
-kept_below : (streams : Bool) (at : At) (flow : Flow) (side : ℕ) (how : Sent) (most : Option ℕ) (seen : Sight) → PassesBelow at (Some side) (pass_kept streams at flow side how most seen).stage
-kept_below true at flow side how most seen = came_below at (streaming flow) side how seen (came_in (streaming flow) seen)
-kept_below false at flow side how most seen = record { few = omega arith; below = λ is. is }
+going_below : (up : Bool) (place : Place) (at : At) (flow : Flow) (size : Option ℕ) → PassesBelow (busy at flow (request_body None size)) (pass_going up place at flow size)
+going_below true place at flow size =
+    up_below (parked_for place flow.request at.parked) place at (sending_on flow) flow None size (for_below place flow.request at.parked at.dials)
+going_below false place at flow size = still_below (busy at flow (request_body None size))
 
-passes_below : (stage : Stage) (seen : Sight) → PassesBelow (place_of stage) (side_of stage) (pass stage seen).stage
-passes_below (idle at) seen = record { few = omega arith; below = λ is. is }
-passes_below (busy at flow (request_body given)) seen = body_below at flow given (request_in seen) seen.now
-passes_below (busy at flow connection) seen = record { few = omega arith; below = λ is. is }
-passes_below (busy at flow (response_head side how)) seen = record { few = omega arith; below = λ is. is }
-passes_below (busy at flow (response_body side how most)) seen = kept_below (streams_in flow most seen) at flow side how most seen
-passes_below (busy at flow (coming_down side how)) seen = came_below at flow side how seen (came_in flow seen)
-passes_below (busy at flow (upgraded side)) seen = record { few = omega arith; below = λ is. is }
-passes_below (busy at flow given_head) seen = record { few = omega arith; below = λ is. is }
-passes_below (busy at flow given_body) seen = record { few = omega arith; below = λ is. is }
-passes_below (next at) seen = record { few = omega arith; below = λ is. is }
-passes_below over seen = record { few = omega arith; below = λ is. is }
+given_below : (at : At) (flow : Flow) (response : Response) (size : Option ℕ) (item : Item ReadRequest) (now : ℕ) →
+    PassesBelow (busy at flow (request_body (Some response) size)) (pass_given at flow response size item now)
+given_below at flow response size missing now = record { few = omega arith; below = λ is. is }
+given_below at flow response size (part head body) now = record { few = omega arith; below = λ is. is }
+given_below at flow response size (complete head body trailers used) now = record { few = omega arith; below = λ is. is }
+given_below at flow response size (bad_head fault) now = record { few = omega arith; below = λ is. is }
+given_below at flow response size (bad_body fault head body) now = record { few = omega arith; below = λ is. is }
+
+-- so is it where a request begins to go up
+begins_below : (terms : Terms) (stage : Stage) (seen : Sight) → PassesBelow stage (begin_up terms stage seen)
+begins_below terms (idle at) seen = still_below (idle at)
+begins_below terms (busy at flow (request_body None size)) seen = going_below (begins_going terms.place at flow size seen) terms.place at flow size
+begins_below terms (busy at flow (request_body (Some response) size)) seen = given_below at flow response size (request_in seen) seen.now
+begins_below terms (busy at flow (connection how)) seen = still_below (busy at flow (connection how))
+begins_below terms (busy at flow (response_head side how)) seen = still_below (busy at flow (response_head side how))
+begins_below terms (busy at flow (response_body side how most)) seen = still_below (busy at flow (response_body side how most))
+begins_below terms (busy at flow (coming_down side how)) seen = still_below (busy at flow (coming_down side how))
+begins_below terms (busy at flow (upgraded side)) seen = still_below (busy at flow (upgraded side))
+begins_below terms (busy at flow given_head) seen = still_below (busy at flow given_head)
+begins_below terms (busy at flow given_body) seen = still_below (busy at flow given_body)
+begins_below terms (next at) seen = still_below (next at)
+begins_below terms over seen = still_below over
+
+gone_below : (at : At) (flow whole : Flow) (doing : Doing) → PassesBelow (busy at flow doing) (busy at whole (gone doing))
+gone_below at flow whole (request_body given size) = record { few = omega arith; below = λ is. is }
+gone_below at flow whole (connection how) = record { few = omega arith; below = λ is. is }
+gone_below at flow whole (response_head side how) = record { few = omega arith; below = λ is. is }
+gone_below at flow whole (response_body side how most) = record { few = omega arith; below = λ is. is }
+gone_below at flow whole (coming_down side how) = record { few = omega arith; below = λ is. is }
+gone_below at flow whole (upgraded side) = record { few = omega arith; below = λ is. is }
+gone_below at flow whole given_head = record { few = omega arith; below = λ is. is }
+gone_below at flow whole given_body = record { few = omega arith; below = λ is. is }
+
+ends_below_by : (g : Option ℕ) (place : Place) (at : At) (flow : Flow) (doing : Doing) (seen : Sight) → PassesBelow (busy at flow doing) (end_by g place at flow doing seen).stage
+ends_below_by None place at flow doing seen = still_below (busy at flow doing)
+ends_below_by (Some server) place at flow doing seen = gone_below at flow (with_whole flow seen.now) doing
+
+-- is whole
+ends_below : (terms : Terms) (stage : Stage) (seen : Sight) → PassesBelow stage (end_up terms stage seen).stage
+ends_below terms (idle at) seen = still_below (idle at)
+ends_below terms (busy at flow doing) seen = ends_below_by (gone_by (going_at doing) (whole_in seen)) terms.place at flow doing seen
+ends_below terms (next at) seen = still_below (next at)
+ends_below terms over seen = still_below over
+
+behind_below : (stays : Bool) (at : At) (flow : Flow) (doing : Doing) → PassesBelow (busy at flow doing) (behind_flow stays (unparked at))
+behind_below true at flow doing = record { few = omega arith; below = λ is. tt }
+behind_below false at flow doing = record { few = omega arith; below = λ is. tt }
+
+came_below : (place : Place) (at : At) (flow from : Flow) (side : ℕ) (how : Sent) (seen : Sight) (came : Option Came) (doing : Doing) → (SideBelow (side_in at doing) at.dials → side < at.dials) →
+    PassesBelow (busy at from doing) (pass_came place at flow side how seen came).stage
+came_below place at flow from side how seen None doing fits = record { few = omega arith; below = λ is. fits is }
+came_below place at flow from side how seen (Some came) doing fits = behind_below (is_sent how && goes_on_behind at.flow flow.request came) at from doing
+
+kept_below : (streams : Bool) (place : Place) (at : At) (flow : Flow) (side : ℕ) (how : Sent) (most : Option ℕ) (seen : Sight) →
+    PassesBelow (busy at flow (response_body side how most)) (pass_kept streams place at flow side how most seen).stage
+kept_below true place at flow side how most seen =
+    came_below place at (streaming flow) flow side how seen (came_in (streaming flow) seen) (response_body side how most) (λ is. is)
+kept_below false place at flow side how most seen = still_below (busy at flow (response_body side how most))
+
+-- and where a response comes down
+comes_below : (terms : Terms) (stage : Stage) (seen : Sight) → PassesBelow stage (come_down terms stage seen).stage
+comes_below terms (idle at) seen = still_below (idle at)
+comes_below terms (busy at flow (request_body given size)) seen = still_below (busy at flow (request_body given size))
+comes_below terms (busy at flow (connection how)) seen = still_below (busy at flow (connection how))
+comes_below terms (busy at flow (response_head side how)) seen = still_below (busy at flow (response_head side how))
+comes_below terms (busy at flow (response_body side how most)) seen = kept_below (streams_in flow most seen) terms.place at flow side how most seen
+comes_below terms (busy at flow (coming_down side how)) seen =
+    came_below terms.place at flow flow side how seen (came_in flow seen) (coming_down side how) (λ is. is)
+comes_below terms (busy at flow (upgraded side)) seen = still_below (busy at flow (upgraded side))
+comes_below terms (busy at flow given_head) seen = still_below (busy at flow given_head)
+comes_below terms (busy at flow given_body) seen = still_below (busy at flow given_body)
+comes_below terms (next at) seen = still_below (next at)
+comes_below terms over seen = still_below over
+
+passes_below : (terms : Terms) (stage : Stage) (seen : Sight) → PassesBelow stage (pass terms stage seen).stage
+passes_below terms stage seen =
+    let begun : Stage = begin_up terms stage seen in
+    let there : Stage = gone_up terms stage seen in
+    let to : Stage = (pass terms stage seen).stage in
+    below_both stage begun to (begins_below terms stage seen)
+    (below_both begun there to (ends_below terms begun (sight_begun stage seen)) (comes_below terms there (sight_gone terms stage seen)))
 
 -- no more servers were dialled where it passes
-pub passes_few : (stage : Stage) (seen : Sight) → dialled (pass stage seen).stage ≤ dialled stage
-passes_few stage seen = (passes_below stage seen).few
+pub passes_few : (terms : Terms) (stage : Stage) (seen : Sight) → dialled (pass terms stage seen).stage ≤ dialled stage
+passes_few terms stage seen = (passes_below terms stage seen).few
+
+-- A server behind those that were dialled is sent nothing where it passes.
+pub pass_far : (server : ℕ) (terms : Terms) (stage : Stage) (seen : Sight) → ServersBelow stage → dialled stage ≤ server → IsSilent server (pass terms stage seen).owed
+pass_far server terms stage seen below few =
+    let begins = begins_below terms stage seen in
+    let fewer = begins.few in
+    pass_silent server terms stage seen (not_up_below server (begin_up terms stage seen) (begins.below below) (omega arith))
+
+-- nor while it waits
+pub so_far_far : (server : ℕ) (terms : Terms) (stage : Stage) (seen : Sight) → ServersBelow stage → dialled stage ≤ server → IsSilent server (so_far terms stage seen)
+so_far_far server terms stage seen below few = so_far_silent server terms stage seen (not_up_below server stage below few)
 
 sequence_same : (stage : Stage) → dialled (sequence stage) ≡ dialled stage
 sequence_same (idle at) = refl
@@ -568,16 +727,16 @@ few_between was least most over between = omega arith
 abbrev pub dialled_at : Standing → ℕ
 dialled_at place = dialled place.stage
 
-passes_counted : (onward : Stage → Stage) → IsOnward onward → (place : Standing) (seen : Sight) → AreBelow place →
-    Counts dialled_at AreBelow (dialled place.stage) (record { owed = (pass place.stage seen).owed; stage = passed onward place seen })
-passes_counted onward goes place seen below =
-    let to : Stage = (pass place.stage seen).stage in
+passes_counted : (onward : Stage → Stage) → IsOnward onward → (terms : Terms) (place : Standing) (seen : Sight) → AreBelow place →
+    Counts dialled_at AreBelow (dialled place.stage) (record { owed = (pass terms place.stage seen).owed; stage = passed onward terms place seen })
+passes_counted onward goes terms place seen below =
+    let to : Stage = (pass terms place.stage seen).stage in
     let same = onward_same onward goes to in
-    let fewer = passes_few place.stage seen in
+    let fewer = passes_few terms place.stage seen in
     record {
-      silent = λ server more. pass_silent server place.stage seen;
+      silent = λ server more. pass_far server terms place.stage seen below more;
       few = omega arith;
-      stays = below_onward onward goes to ((passes_below place.stage seen).below below);
+      stays = below_onward onward goes to ((passes_below terms place.stage seen).below below);
     }
 
 pub turns_counted : (onward : Stage → Stage) → IsOnward onward → (terms : Terms) (place : Standing) (prefix : List (Timed Event)) (answer : Timed Reply) → AreBelow place →
@@ -598,9 +757,9 @@ turns_counted onward goes terms place prefix answer below =
 -- A conversation of HTTP, or one flow, sends to servers that were dialled and connected before, the one whose side is open among them.
 pub http_counts : (onward : Stage → Stage) → IsOnward onward → (terms : Terms) → CountsServers (http_chain onward terms) dialled_at AreBelow
 http_counts onward goes terms = record {
-  passes = λ place prefix below. passes_counted onward goes place (sight_over place prefix) below;
+  passes = λ place prefix below. passes_counted onward goes terms place (sight_over place prefix) below;
   looks = λ place prefix below server more. looks_silent server terms place.stage (sight_over place prefix);
-  waits = λ place prefix below server more. so_far_silent server place.stage (sight_over place prefix);
+  waits = λ place prefix below server more. so_far_far server terms place.stage (sight_over place prefix) below more;
   behind = λ place prefix below server more. behind_silent server place.stage (sight_over place prefix);
   turns = λ place prefix ask answer below asked. turns_counted onward goes terms place prefix answer below;
 }

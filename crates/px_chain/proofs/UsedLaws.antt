@@ -21,8 +21,8 @@ left_drop (bad_body fault head body) used bytes = refl
 pub client_drop : (stage : Stage) (seen : Sight) (used : ℕ) (bytes : List ℕ) → seen.client ≡ drop used bytes →
     client_left stage seen ≡ drop (client_used stage seen used) bytes
 client_drop (idle at) seen used bytes is = is
-client_drop (busy at flow (request_body given)) seen used bytes is = ap (left_by (request_in seen)) is ∙ left_drop (request_in seen) used bytes
-client_drop (busy at flow connection) seen used bytes is = is
+client_drop (busy at flow (request_body given size)) seen used bytes is = ap (left_by (request_in seen)) is ∙ left_drop (request_in seen) used bytes
+client_drop (busy at flow (connection how)) seen used bytes is = is
 client_drop (busy at flow (response_head server sent)) seen used bytes is = is
 client_drop (busy at flow (response_body server sent most)) seen used bytes is = is
 client_drop (busy at flow (coming_down server sent)) seen used bytes is = is
@@ -35,8 +35,8 @@ client_drop over seen used bytes is = is
 pub server_drop : (stage : Stage) (seen : Sight) (used : ℕ) (bytes : List ℕ) → seen.server ≡ drop used bytes →
     server_left stage seen ≡ drop (server_used stage seen used) bytes
 server_drop (idle at) seen used bytes is = is
-server_drop (busy at flow (request_body given)) seen used bytes is = is
-server_drop (busy at flow connection) seen used bytes is = is
+server_drop (busy at flow (request_body given size)) seen used bytes is = is
+server_drop (busy at flow (connection how)) seen used bytes is = is
 server_drop (busy at flow (response_head server sent)) seen used bytes is = is
 server_drop (busy at flow (response_body server sent most)) seen used bytes is =
     let answers : Answers = answers_in flow.request seen in
@@ -72,8 +72,8 @@ request_within seen used bytes is within =
 pub client_within : (stage : Stage) (seen : Sight) (used : ℕ) (bytes : List ℕ) → seen.client ≡ drop used bytes → used ≤ length bytes →
     client_used stage seen used ≤ length bytes
 client_within (idle at) seen used bytes is within = within
-client_within (busy at flow (request_body given)) seen used bytes is within = request_within seen used bytes is within
-client_within (busy at flow connection) seen used bytes is within = within
+client_within (busy at flow (request_body given size)) seen used bytes is within = request_within seen used bytes is within
+client_within (busy at flow (connection how)) seen used bytes is within = within
 client_within (busy at flow (response_head server sent)) seen used bytes is within = within
 client_within (busy at flow (response_body server sent most)) seen used bytes is within = within
 client_within (busy at flow (coming_down server sent)) seen used bytes is within = within
@@ -96,8 +96,8 @@ answers_within server answers used bytes fit is within =
 pub server_within : (stage : Stage) (seen : Sight) (used : ℕ) (bytes : List ℕ) → seen.server ≡ drop used bytes → used ≤ length bytes →
     server_used stage seen used ≤ length bytes
 server_within (idle at) seen used bytes is within = within
-server_within (busy at flow (request_body given)) seen used bytes is within = within
-server_within (busy at flow connection) seen used bytes is within = within
+server_within (busy at flow (request_body given size)) seen used bytes is within = within
+server_within (busy at flow (connection how)) seen used bytes is within = within
 server_within (busy at flow (response_head server sent)) seen used bytes is within = within
 server_within (busy at flow (response_body server sent most)) seen used bytes is within =
     answers_within seen.server (answers_in flow.request seen) used bytes

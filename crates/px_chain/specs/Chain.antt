@@ -1,8 +1,9 @@
 -- What is due in a conversation of HTTP/1.1, as a chain of stages (RFC 9110, RFC 9112). What a stage finds, where it goes on
 -- without a reply and what a reply brings are functions of the stage and of what it looks at. A close of the client counts where
 -- nothing else is found in the same sight.
-use Rattle.std.specs.Prelude.{◌≡◌, ℕ, ◌+◌, ◌==◌, Bool, true, false, List, [], ◌∷◌, length, Option, Some, None, ◌++◌}
+use Rattle.std.specs.Prelude.{◌≡◌, ℕ, ◌+◌, ◌==◌, Bool, true, false, ◌&&◌, not, List, [], ◌∷◌, length, Option, Some, None, ◌++◌}
 use Rattle.px_message.specs.declared.address.Address.{Address}
+use Rattle.px_message.specs.declared.fault.Fault.{Fault}
 use Rattle.px_message.specs.declared.flow.Flow.{Flow}
 use Rattle.px_message.specs.declared.request.Request.{Request}
 use Rattle.px_message.specs.declared.response.Response.{Response}
@@ -27,7 +28,7 @@ use Rattle.px_exchange.specs.declared.terms.Terms.{Terms}
 use Rattle.px_exchange.specs.declared.place.Place.{Place}
 use Rattle.px_exchange.specs.declared.place.Place.TheVariants as places
 use Rattle.px_exchange.specs.Dials.{connected_owes, dial_owes}
-use Rattle.px_exchange.specs.Endings.{without_response, killed_message, closed_message, ends_early, connection_goes_on, finished, shut_server, shut_unless}
+use Rattle.px_exchange.specs.Endings.{without_response, killed_message, closed_message, ends_by_fault, ends_early, connection_goes_on, finished, shut_server, shut_unless}
 use Rattle.px_exchange.specs.Finds.{or_leaves, look_head, look_body, look_answer, look_returned}
 use Rattle.px_write.specs.Error.{fault_message}
 use Rattle.px_exchange.specs.Flows.{ask_of, with_body, response_of, with_answer, with_end, with_returned, with_start}
@@ -35,9 +36,11 @@ use Rattle.px_exchange.specs.Places.{dialled_for, is_same_address, server_for}
 use Rattle.px_exchange.specs.Replies.{taken_at_request_head, taken_at_request_body, taken_at_response_head, taken_at_response_body}
 use Rattle.px_exchange.specs.Requests.{expects, flow_of, judged}
 use Rattle.px_exchange.specs.Texts.{interim_commands, meets_expectation, returned_text}
-use Rattle.px_chain.specs.Sights.{Sight, Standing, UsedBytes, answers_in, dials_at, left_by, request_in, server_in, server_parked, sight_over, used_by_turn, used_with}
+use Rattle.px_chain.specs.Behind.{dials_at, used_by_turn}
+use Rattle.px_chain.specs.Going.{allowed_up_by, goes_up, is_sent, sending_on, sends_going, sends_up, told_behind, whole_in, with_whole}
+use Rattle.px_chain.specs.Sights.{Sight, Standing, UsedBytes, answers_in, left_by, request_in, server_in, server_parked, sight_over, used_with}
 use Rattle.px_chain.specs.Coming.{Came, allowed_by, came_in, finished_coming, goes_on_behind, sends_coming, streaming, streams_in}
-use Rattle.px_chain.specs.Stages.{At, Doing, Parked, Sent, Stage, all_sent, busy, coming_down, connection, given_body, given_head, idle, next, over, request_body, response_body, response_head, unparked, upgraded}
+use Rattle.px_chain.specs.Stages.{At, Doing, Parked, Sent, Stage, all_sent, busy, coming_down, connection, given_body, given_head, going_up, idle, next, over, request_body, response_body, response_head, unparked, upgraded}
 use Rattle.px_chain.specs.Streams.{from_here}
 
 -- ---- idle: a request's head
@@ -50,18 +53,18 @@ killed flow moment used closed = record { owed = ends_early flow killed_message 
 abbrev pub stops : Turn Stage Command
 stops = record { owed = []; stage = over }
 
-abbrev pub turn_taken_head : At → Flow → Bool → Taken Request → ℕ → Sight → Turn Stage Command
-turn_taken_head at flow expected (GoesOn request) moment seen =
-    record { owed = meets_expectation expected; stage = busy at (record flow { request = request }) (request_body None) }
-turn_taken_head at flow expected (Responds response) moment seen =
-    record { owed = meets_expectation expected; stage = busy at flow (request_body (Some response)) }
-turn_taken_head at flow expected Kills moment seen = killed flow moment (server_parked at.parked seen) seen.closed
+abbrev pub turn_taken_head : At → Flow → Bool → Option ℕ → Taken Request → ℕ → Sight → Turn Stage Command
+turn_taken_head at flow expected most (GoesOn request) moment seen =
+    record { owed = meets_expectation expected; stage = busy at (record flow { request = request }) (request_body None most) }
+turn_taken_head at flow expected most (Responds response) moment seen =
+    record { owed = meets_expectation expected; stage = busy at flow (request_body (Some response) None) }
+turn_taken_head at flow expected most Kills moment seen = killed flow moment (server_parked at.parked seen) seen.closed
 
 abbrev pub turn_judged : Terms → At → ReadRequest → Judged → Sight → Timed Reply → Turn Stage Command
 turn_judged terms at head (Refused fault) seen answer = stops
 turn_judged terms at head (Connects address) seen answer = stops
 turn_judged terms at head (Accepted request) seen answer =
-    turn_taken_head at (flow_of terms at.flow request seen.now) (expects head)
+    turn_taken_head at (flow_of terms at.flow request seen.now) (expects head) (allowed_up_by terms.streams answer.value)
     (taken_at_request_head request answer.value) answer.moment seen
 
 abbrev pub turn_head : Terms → At → Item ReadRequest → Sight → Timed Reply → Turn Stage Command
@@ -75,10 +78,10 @@ turn_head terms at _ seen answer = stops
 -- ---- the request's body
 
 -- a request that is whole needs no question where a response is given already
-abbrev pub pass_body : At → Flow → Option Response → Item ReadRequest → ℕ → Stage
-pass_body at flow (Some response) (complete head body trailers used) now =
+abbrev pub pass_given : At → Flow → Response → Option ℕ → Item ReadRequest → ℕ → Stage
+pass_given at flow response most (complete head body trailers used) now =
     busy at (record (with_body flow body.content trailers now) { response = Some response }) given_head
-pass_body at flow given item now = busy at flow (request_body given)
+pass_given at flow response most item now = busy at flow (request_body (Some response) most)
 
 -- the flow, connected to its server
 abbrev pub reached : Place → Flow → Flow
@@ -93,13 +96,41 @@ abbrev pub parked_for : Place → Request → Option Parked → Option ℕ
 parked_for place request None = None
 parked_for place request (Some parked) = side_if (is_same_address parked.address (server_for place request)) parked.server
 
+-- no byte came of a side, and it has not closed
+abbrev pub is_silent : List ℕ → Bool → Bool
+is_silent [] shut = not shut
+is_silent (byte ∷ more) shut = false
+
+-- A side of which something was seen meets the whole request alone: so what came early on it meets the same, however the client's bytes are cut.
+abbrev pub is_unheard : Option ℕ → Sight → Bool
+is_unheard None seen = true
+is_unheard (Some server) seen = is_silent seen.server seen.shut
+
+-- It is streamed, and its side is one of which nothing was seen, or is dialled for it.
+abbrev pub begins_going : Place → At → Flow → Option ℕ → Sight → Bool
+begins_going place at flow most seen = goes_up most seen && is_unheard (parked_for place flow.request at.parked) seen
+
 -- A request that goes on goes to the parked side, or its server is dialled.
 abbrev pub goes_on_by : Option ℕ → Place → At → Flow → Turn Stage Command
-goes_on_by None place at flow = record { owed = []; stage = busy at flow connection }
+goes_on_by None place at flow = record { owed = []; stage = busy at flow (connection all_sent) }
 goes_on_by (Some server) place at flow = record {
   owed = connected_owes place flow server;
   stage = busy (unparked at) (reached place flow) (response_head server all_sent);
 }
+
+-- One that is streamed owes its text by what its stage owes while it waits.
+abbrev pub goes_up_by : Option ℕ → Place → At → Flow → Stage
+goes_up_by None place at flow = busy at flow (connection going_up)
+goes_up_by (Some server) place at flow = busy (unparked at) (reached place flow) (response_head server going_up)
+
+-- it is not kept any more
+abbrev pub pass_going : Bool → Place → At → Flow → Option ℕ → Stage
+pass_going true place at flow most = goes_up_by (parked_for place flow.request at.parked) place at (sending_on flow)
+pass_going false place at flow most = busy at flow (request_body None most)
+
+abbrev pub pass_body : Place → At → Flow → Option Response → Option ℕ → Sight → Stage
+pass_body place at flow None most seen = pass_going (begins_going place at flow most seen) place at flow most
+pass_body place at flow (Some response) most seen = pass_given at flow response most (request_in seen) seen.now
 
 abbrev pub turn_taken_body : Place → At → Flow → Taken Request → ℕ → Sight → Turn Stage Command
 turn_taken_body place at flow (GoesOn request) moment seen =
@@ -120,32 +151,40 @@ turn_body place at flow _ seen answer = stops
 
 -- ---- the connection to its server
 
-abbrev pub dial_leads : Place → At → Flow → Reply → Stage
-dial_leads place at flow reply.Dialled =
-    busy (record at { dials = at.dials + 1; parked = None }) (reached place flow) (response_head at.dials all_sent)
-dial_leads place at flow _ = over
+abbrev pub dial_leads : Place → At → Flow → Sent → Reply → Stage
+dial_leads place at flow sent reply.Dialled =
+    busy (record at { dials = at.dials + 1; parked = None }) (reached place flow) (response_head at.dials sent)
+dial_leads place at flow sent _ = over
 
-abbrev pub turn_dial : Place → At → Flow → Timed Reply → Bool → Turn Stage Command
-turn_dial place at flow answer closed =
-    record { owed = dial_owes place flow at.dials answer.value answer.moment closed; stage = dial_leads place at flow answer.value }
+-- what a request owes that goes up is owed behind the answer
+abbrev pub dial_owes_by : Sent → Place → Flow → ℕ → Reply → ℕ → Bool → List Command
+dial_owes_by all_sent place flow server answer moment closed = dial_owes place flow server answer moment closed
+dial_owes_by going_up place flow server (reply.Refused fault) moment closed = ends_by_fault flow fault moment NoServer closed
+dial_owes_by going_up place flow server answer moment closed = []
+
+abbrev pub turn_dial : Place → At → Flow → Sent → Timed Reply → Bool → Turn Stage Command
+turn_dial place at flow sent answer closed = record {
+  owed = dial_owes_by sent place flow at.dials answer.value answer.moment closed;
+  stage = dial_leads place at flow sent answer.value;
+}
 
 -- ---- the head of the final response
 
-abbrev pub turn_taken_answer : At → Flow → ℕ → Option ℕ → Taken Response → ℕ → Used → Bool → Turn Stage Command
-turn_taken_answer at flow server most (GoesOn response) moment used closed =
-    record { owed = []; stage = busy at (record flow { response = Some response }) (response_body server all_sent most) }
-turn_taken_answer at flow server most _ moment used closed = killed (without_response flow) moment used closed
+abbrev pub turn_taken_answer : At → Flow → ℕ → Sent → Option ℕ → Taken Response → ℕ → Used → Bool → Turn Stage Command
+turn_taken_answer at flow server sent most (GoesOn response) moment used closed =
+    record { owed = []; stage = busy at (record flow { response = Some response }) (response_body server sent most) }
+turn_taken_answer at flow server sent most _ moment used closed = killed (without_response flow) moment used closed
 
-abbrev pub turn_answer_head : Terms → At → Flow → ℕ → ReadResponse → Sight → Timed Reply → Turn Stage Command
-turn_answer_head terms at flow server head seen answer =
-    turn_taken_answer at (with_answer flow (response_of head) seen.now) server (allowed_by terms.streams answer.value)
+abbrev pub turn_answer_head : Terms → At → Flow → ℕ → Sent → ReadResponse → Sight → Timed Reply → Turn Stage Command
+turn_answer_head terms at flow server sent head seen answer =
+    turn_taken_answer at (with_answer flow (response_of head) seen.now) server sent (allowed_by terms.streams answer.value)
     (taken_at_response_head (response_of head) answer.value) answer.moment (server_in server seen) seen.closed
 
-abbrev pub turn_answer : Terms → At → Flow → ℕ → Item ReadResponse → Sight → Timed Reply → Turn Stage Command
-turn_answer terms at flow server (part head body) seen answer = turn_answer_head terms at flow server head seen answer
-turn_answer terms at flow server (complete head body trailers size) seen answer = turn_answer_head terms at flow server head seen answer
-turn_answer terms at flow server (bad_body fault head body) seen answer = turn_answer_head terms at flow server head seen answer
-turn_answer terms at flow server _ seen answer = stops
+abbrev pub turn_answer : Terms → At → Flow → ℕ → Sent → Item ReadResponse → Sight → Timed Reply → Turn Stage Command
+turn_answer terms at flow server sent (part head body) seen answer = turn_answer_head terms at flow server sent head seen answer
+turn_answer terms at flow server sent (complete head body trailers size) seen answer = turn_answer_head terms at flow server sent head seen answer
+turn_answer terms at flow server sent (bad_body fault head body) seen answer = turn_answer_head terms at flow server sent head seen answer
+turn_answer terms at flow server sent _ seen answer = stops
 
 -- ---- the response's body
 
@@ -154,14 +193,14 @@ abbrev pub behind_flow : Bool → At → Stage
 behind_flow true at = next (record at { flow = at.flow + 1 })
 behind_flow false at = over
 
--- it is finished: its own server's side is closed, and a parked one where the conversation ends
-abbrev pub finish : At → Flow → Response → Used → Used → Bool → Turn Stage Command
-finish at flow response served parked closed =
-    let stays = connection_goes_on at.flow flow.request response in
+-- It is finished: its own server's side is closed, and a parked one where the conversation ends. That ends where its request is not whole.
+abbrev pub finish : At → Flow → Sent → Response → Used → Used → Bool → Turn Stage Command
+finish at flow sent response served parked closed =
+    let stays = is_sent sent && connection_goes_on at.flow flow.request response in
     record { owed = finished flow response served ++ shut_unless stays parked closed; stage = behind_flow stays at }
 
 abbrev pub turn_taken_returned : At → Flow → Taken Response → ℕ → Used → Bool → Turn Stage Command
-turn_taken_returned at flow (GoesOn response) moment parked closed = finish at flow response NoServer parked closed
+turn_taken_returned at flow (GoesOn response) moment parked closed = finish at flow all_sent response NoServer parked closed
 turn_taken_returned at flow _ moment parked closed = killed flow moment parked closed
 
 -- a flow whose response is there
@@ -174,31 +213,32 @@ turn_whole_answer at flow answer parked closed = turn_response flow.response
     (λ response. taken_at_response_body response answer.value)
     (λ taken. turn_taken_returned at flow taken answer.moment parked closed)
 
--- A response of code 101 is sent, and ends HTTP: what follows on both sides is of another protocol (RFC 9110 section 15.2.2).
+-- A response of code 101 is sent, and ends HTTP, where its request was whole: what follows on both sides is of another protocol (RFC 9110
+-- section 15.2.2).
 abbrev pub upgrade : At → Flow → Response → ℕ → Turn Stage Command
 upgrade at flow response server = record {
   owed = commands.Send Client (returned_text flow.request response) ∷ [];
   stage = busy at (record flow { response = Some response }) (upgraded server);
 }
 
-abbrev pub finish_by : Bool → At → Flow → Response → ℕ → Used → Bool → Turn Stage Command
-finish_by true at flow response server used closed = upgrade at flow response server
-finish_by false at flow response server used closed = finish (unparked at) flow response used NoServer closed
+abbrev pub finish_by : Bool → At → Flow → Sent → Response → ℕ → Used → Bool → Turn Stage Command
+finish_by true at flow sent response server used closed = upgrade at flow response server
+finish_by false at flow sent response server used closed = finish (unparked at) flow sent response used NoServer closed
 
-abbrev pub turn_taken_whole : At → Flow → ℕ → Taken Response → ℕ → Used → Bool → Turn Stage Command
-turn_taken_whole at flow server (GoesOn response) moment used closed =
-    finish_by (response.status == 101) at flow response server used closed
-turn_taken_whole at flow server _ moment used closed = killed flow moment used closed
+abbrev pub turn_taken_whole : At → Flow → ℕ → Sent → Taken Response → ℕ → Used → Bool → Turn Stage Command
+turn_taken_whole at flow server sent (GoesOn response) moment used closed =
+    finish_by (is_sent sent && response.status == 101) at flow sent response server used closed
+turn_taken_whole at flow server sent _ moment used closed = killed flow moment used closed
 
-abbrev pub turn_read_whole : At → Flow → ℕ → Timed Reply → Used → Bool → Turn Stage Command
-turn_read_whole at flow server answer used closed = turn_response flow.response
+abbrev pub turn_read_whole : At → Flow → ℕ → Sent → Timed Reply → Used → Bool → Turn Stage Command
+turn_read_whole at flow server sent answer used closed = turn_response flow.response
     (λ response. taken_at_response_body response answer.value)
-    (λ taken. turn_taken_whole at flow server taken answer.moment used closed)
+    (λ taken. turn_taken_whole at flow server sent taken answer.moment used closed)
 
-abbrev pub turn_returned : At → Flow → ℕ → Item ReadResponse → Sight → Timed Reply → Turn Stage Command
-turn_returned at flow server (complete head body trailers size) seen answer =
-    turn_read_whole at (with_returned flow body.content trailers seen.now) server answer (server_in server seen) seen.closed
-turn_returned at flow server _ seen answer = stops
+abbrev pub turn_returned : At → Flow → ℕ → Sent → Item ReadResponse → Sight → Timed Reply → Turn Stage Command
+turn_returned at flow server sent (complete head body trailers size) seen answer =
+    turn_read_whole at (with_returned flow body.content trailers seen.now) server sent answer (server_in server seen) seen.closed
+turn_returned at flow server sent _ seen answer = stops
 
 -- ---- a response that was given in place of the server's
 
@@ -222,36 +262,103 @@ turn_given_head at flow answer parked closed = turn_response flow.response
 abbrev pub goes_to : Stage → Turn Stage Command
 goes_to stage = record { owed = []; stage = stage }
 
--- A streamed response. Where it is whole its flow is finished without a question: its text, the flow, and the closes of its server's
--- side and, where its connection ends, of the client.
-abbrev pub pass_came : At → Flow → ℕ → Sent → Sight → Option Came → Turn Stage Command
-pass_came at flow server sent seen None = goes_to (busy at flow (coming_down server sent))
-pass_came at flow server sent seen (Some came) =
-    let stays = goes_on_behind at.flow flow.request came in record {
-      owed = finished_coming flow seen (server_in server seen) ++ shut_unless stays NoServer seen.closed;
+-- Passing is three steps, one behind the other: a request begins to go up, or is whole whose response is given; one that goes up is whole;
+-- and a response comes down.
+
+-- ---- a request begins to go up, or needs no question
+
+abbrev pub begins_up : Place → At → Flow → Doing → Sight → Stage
+begins_up place at flow (request_body given most) seen = pass_body place at flow given most seen
+begins_up place at flow doing seen = busy at flow doing
+
+abbrev pub begin_up : Terms → Stage → Sight → Stage
+begin_up terms (busy at flow doing) seen = begins_up terms.place at flow doing seen
+begin_up terms stage seen = stage
+
+-- the bytes of a whole request whose response is given are used
+abbrev pub used_by_begin : Stage → Sight → UsedBytes → UsedBytes
+used_by_begin (busy at flow (request_body (Some response) most)) seen used = record used { client = used_with (request_in seen) used.client }
+used_by_begin stage seen used = used
+
+abbrev pub sight_begun : Stage → Sight → Sight
+sight_begun (busy at flow (request_body (Some response) most)) seen = record seen { client = left_by (request_in seen) seen.client }
+sight_begun stage seen = seen
+
+-- ---- one that goes up is whole: the rest of its text is owed, and its bytes are used
+
+-- the doing that is behind it, and the number of its server, where it goes up
+abbrev pub going_at : Doing → Option ℕ
+going_at (response_head server going_up) = Some server
+going_at (response_body server going_up most) = Some server
+going_at (coming_down server going_up) = Some server
+going_at doing = None
+
+abbrev pub gone : Doing → Doing
+gone (response_head server sent) = response_head server all_sent
+gone (response_body server sent most) = response_body server all_sent most
+gone (coming_down server sent) = coming_down server all_sent
+gone doing = doing
+
+-- a server that a request goes up to, which is whole
+abbrev pub gone_by : Option ℕ → Option ℕ → Option ℕ
+gone_by (Some server) (Some size) = Some server
+gone_by going size = None
+
+abbrev pub end_by : Option ℕ → Place → At → Flow → Doing → Sight → Turn Stage Command
+end_by None place at flow doing seen = goes_to (busy at flow doing)
+end_by (Some server) place at flow doing seen =
+    record { owed = sends_going place flow server seen; stage = busy at (with_whole flow seen.now) (gone doing) }
+
+abbrev pub end_up : Terms → Stage → Sight → Turn Stage Command
+end_up terms (busy at flow doing) seen = end_by (gone_by (going_at doing) (whole_in seen)) terms.place at flow doing seen
+end_up terms stage seen = goes_to stage
+
+abbrev pub used_by_gone : Option ℕ → Sight → UsedBytes → UsedBytes
+used_by_gone None seen used = used
+used_by_gone (Some server) seen used = record used { client = used_with (request_in seen) used.client }
+
+abbrev pub used_by_end : Stage → Sight → UsedBytes → UsedBytes
+used_by_end (busy at flow doing) seen used = used_by_gone (gone_by (going_at doing) (whole_in seen)) seen used
+used_by_end stage seen used = used
+
+abbrev pub past_gone : Option ℕ → Sight → Sight
+past_gone None seen = seen
+past_gone (Some server) seen = record seen { client = left_by (request_in seen) seen.client }
+
+abbrev pub sight_ended : Stage → Sight → Sight
+sight_ended (busy at flow doing) seen = past_gone (gone_by (going_at doing) (whole_in seen)) seen
+sight_ended stage seen = seen
+
+-- ---- a response comes down
+
+-- Where it is whole its flow is finished without a question: what came of its request, its text, the flow, and the closes of its
+-- server's side and, where its connection ends, of the client. That ends where the request is not whole.
+abbrev pub pass_came : Place → At → Flow → ℕ → Sent → Sight → Option Came → Turn Stage Command
+pass_came place at flow server sent seen None = goes_to (busy at flow (coming_down server sent))
+pass_came place at flow server sent seen (Some came) =
+    let stays = is_sent sent && goes_on_behind at.flow flow.request came in record {
+      owed = sends_up place flow server sent seen ++ (finished_coming flow seen (server_in server seen) ++ shut_unless stays NoServer seen.closed);
       stage = behind_flow stays (unparked at);
     }
 
-abbrev pub pass_down : At → Flow → ℕ → Sent → Sight → Turn Stage Command
-pass_down at flow server sent seen = pass_came at flow server sent seen (came_in flow seen)
+abbrev pub pass_down : Place → At → Flow → ℕ → Sent → Sight → Turn Stage Command
+pass_down place at flow server sent seen = pass_came place at flow server sent seen (came_in flow seen)
 
 -- one that is not streamed is kept until it is whole
-abbrev pub pass_kept : Bool → At → Flow → ℕ → Sent → Option ℕ → Sight → Turn Stage Command
-pass_kept true at flow server sent most seen = pass_down at (streaming flow) server sent seen
-pass_kept false at flow server sent most seen = goes_to (busy at flow (response_body server sent most))
+abbrev pub pass_kept : Bool → Place → At → Flow → ℕ → Sent → Option ℕ → Sight → Turn Stage Command
+pass_kept true place at flow server sent most seen = pass_down place at (streaming flow) server sent seen
+pass_kept false place at flow server sent most seen = goes_to (busy at flow (response_body server sent most))
 
-abbrev pub passes : At → Flow → Doing → Sight → Turn Stage Command
-passes at flow (request_body given) seen = goes_to (pass_body at flow given (request_in seen) seen.now)
-passes at flow (response_body server sent most) seen = pass_kept (streams_in flow most seen) at flow server sent most seen
-passes at flow (coming_down server sent) seen = pass_down at flow server sent seen
-passes at flow doing seen = goes_to (busy at flow doing)
+abbrev pub comes : Place → At → Flow → Doing → Sight → Turn Stage Command
+comes place at flow (response_body server sent most) seen = pass_kept (streams_in flow most seen) place at flow server sent most seen
+comes place at flow (coming_down server sent) seen = pass_down place at flow server sent seen
+comes place at flow doing seen = goes_to (busy at flow doing)
 
-abbrev pub pass : Stage → Sight → Turn Stage Command
-pass (busy at flow doing) seen = passes at flow doing seen
-pass stage seen = goes_to stage
+abbrev pub come_down : Terms → Stage → Sight → Turn Stage Command
+come_down terms (busy at flow doing) seen = comes terms.place at flow doing seen
+come_down terms stage seen = goes_to stage
 
--- What is used by that: the bytes of a whole request whose response is given; and of a server's side that is closed nothing counts
--- any more.
+-- of a server's side that is closed nothing counts any more
 abbrev pub used_by_came : Option Came → UsedBytes → UsedBytes
 used_by_came None used = used
 used_by_came (Some came) used = record used { server = 0 }
@@ -260,13 +367,11 @@ abbrev pub used_by_kept : Bool → Option Came → UsedBytes → UsedBytes
 used_by_kept true came used = used_by_came came used
 used_by_kept false came used = used
 
-abbrev pub used_by_pass : Stage → Sight → UsedBytes → UsedBytes
-used_by_pass (busy at flow (request_body (Some response))) seen used = record used { client = used_with (request_in seen) used.client }
-used_by_pass (busy at flow (response_body server sent most)) seen used = used_by_kept (streams_in flow most seen) (came_in (streaming flow) seen) used
-used_by_pass (busy at flow (coming_down server sent)) seen used = used_by_came (came_in flow seen) used
-used_by_pass stage seen used = used
+abbrev pub used_by_coming : Stage → Sight → UsedBytes → UsedBytes
+used_by_coming (busy at flow (response_body server sent most)) seen used = used_by_kept (streams_in flow most seen) (came_in (streaming flow) seen) used
+used_by_coming (busy at flow (coming_down server sent)) seen used = used_by_came (came_in flow seen) used
+used_by_coming stage seen used = used
 
--- and what is left of the sight then
 abbrev pub past_came : Option Came → Sight → Sight
 past_came None seen = seen
 past_came (Some came) seen = record seen { server = []; shut = false }
@@ -275,11 +380,34 @@ abbrev pub past_kept : Bool → Option Came → Sight → Sight
 past_kept true came seen = past_came came seen
 past_kept false came seen = seen
 
-abbrev pub sight_past : Stage → Sight → Sight
-sight_past (busy at flow (request_body (Some response))) seen = record seen { client = left_by (request_in seen) seen.client }
-sight_past (busy at flow (response_body server sent most)) seen = past_kept (streams_in flow most seen) (came_in (streaming flow) seen) seen
-sight_past (busy at flow (coming_down server sent)) seen = past_came (came_in flow seen) seen
-sight_past stage seen = seen
+abbrev pub sight_come : Stage → Sight → Sight
+sight_come (busy at flow (response_body server sent most)) seen = past_kept (streams_in flow most seen) (came_in (streaming flow) seen) seen
+sight_come (busy at flow (coming_down server sent)) seen = past_came (came_in flow seen) seen
+sight_come stage seen = seen
+
+-- ---- all three
+
+-- behind the first two, where it stands and what is left to see
+abbrev pub gone_up : Terms → Stage → Sight → Stage
+gone_up terms stage seen = (end_up terms (begin_up terms stage seen) (sight_begun stage seen)).stage
+
+abbrev pub sight_gone : Terms → Stage → Sight → Sight
+sight_gone terms stage seen = sight_ended (begin_up terms stage seen) (sight_begun stage seen)
+
+abbrev pub pass : Terms → Stage → Sight → Turn Stage Command
+pass terms stage seen =
+    let up = end_up terms (begin_up terms stage seen) (sight_begun stage seen) in
+    let down = come_down terms up.stage (sight_gone terms stage seen) in
+    record { owed = up.owed ++ down.owed; stage = down.stage }
+
+-- what is used by that, and what is left of the sight then
+abbrev pub used_by_pass : Terms → Stage → Sight → UsedBytes → UsedBytes
+used_by_pass terms stage seen used =
+    used_by_coming (gone_up terms stage seen) (sight_gone terms stage seen)
+    (used_by_end (begin_up terms stage seen) (sight_begun stage seen) (used_by_begin stage seen used))
+
+abbrev pub sight_past : Terms → Stage → Sight → Sight
+sight_past terms stage seen = sight_come (gone_up terms stage seen) (sight_gone terms stage seen)
 
 -- ---- what it finds, but for the client's close
 
@@ -288,15 +416,27 @@ abbrev pub look_coming : Flow → Item ReadResponse → ℕ → Used → Bool �
 look_coming flow (bad_body fault head body) moment used closed = Ends (ends_early flow (fault_message fault) moment used closed)
 look_coming flow _ moment used closed = NotYet
 
+-- A bad body of a request that goes up is found first.
+abbrev pub bad_or : Item ReadRequest → (Fault → List Command) → Look Command → Look Command
+bad_or (bad_body fault head body) ends found = Ends (ends fault)
+bad_or item ends found = found
+
+abbrev pub look_up : Sent → Sight → (Fault → List Command) → Look Command → Look Command
+look_up all_sent seen ends found = found
+look_up going_up seen ends found = bad_or (request_in seen) ends found
+
 abbrev pub finds : Place → At → Flow → Doing → Sight → Look Command
-finds place at flow (request_body given) seen = look_body flow (request_in seen) seen.now (server_parked at.parked seen) seen.closed
-finds place at flow connection seen = Asks (commands.Dial at.dials (dialled_for place flow.request) None)
+finds place at flow (request_body given most) seen = look_body flow (request_in seen) seen.now (server_parked at.parked seen) seen.closed
+finds place at flow (connection sent) seen = Asks (commands.Dial at.dials (dialled_for place flow.request) None)
 finds place at flow (response_head server sent) seen =
-    look_answer flow (answers_in flow.request seen).final seen.now (server_in server seen) seen.closed
+    look_up sent seen (λ fault. ends_by_fault flow fault seen.now (server_in server seen) seen.closed)
+    (look_answer flow (answers_in flow.request seen).final seen.now (server_in server seen) seen.closed)
 finds place at flow (response_body server sent most) seen =
-    look_returned flow (answers_in flow.request seen).final seen.now (server_in server seen) seen.closed
+    look_up sent seen (λ fault. ends_by_fault flow fault seen.now (server_in server seen) seen.closed)
+    (look_returned flow (answers_in flow.request seen).final seen.now (server_in server seen) seen.closed)
 finds place at flow (coming_down server sent) seen =
-    look_coming flow (answers_in flow.request seen).final seen.now (server_in server seen) seen.closed
+    look_up sent seen (λ fault. ends_early flow (fault_message fault) seen.now (server_in server seen) seen.closed)
+    (look_coming flow (answers_in flow.request seen).final seen.now (server_in server seen) seen.closed)
 finds place at flow (upgraded server) seen = Ends []
 finds place at flow given_head seen = Asks (ask_of (given_at flow seen.now) ResponseHead)
 finds place at flow given_body seen = Asks (ask_of flow ResponseBody)
@@ -309,7 +449,7 @@ find terms _ seen = Ends []
 -- ---- what is owed where the client leaves
 
 abbrev pub leaves : At → Flow → Doing → Sight → List Command
-leaves at flow (request_body given) seen = ends_early flow closed_message seen.now (server_parked at.parked seen) true
+leaves at flow (request_body given most) seen = ends_early flow closed_message seen.now (server_parked at.parked seen) true
 leaves at flow (response_head server sent) seen = ends_early flow closed_message seen.now (server_in server seen) true
 leaves at flow (response_body server sent most) seen = ends_early (without_response flow) closed_message seen.now (server_in server seen) true
 leaves at flow (coming_down server sent) seen = ends_early flow closed_message seen.now (server_in server seen) true
@@ -323,21 +463,22 @@ leaving _ seen = []
 abbrev pub look : Terms → Stage → Sight → Look Command
 look terms stage seen = or_leaves seen.closed (leaving stage seen) (find terms stage seen)
 
--- ---- what it owes while it waits: the interim responses that have come, and what came of a response that is streamed
+-- ---- what it owes while it waits: the interim responses that have come, and what came of a request or a response that is streamed
 
-abbrev pub waits : Flow → Doing → Sight → List Command
-waits flow (response_head server sent) seen = interim_commands flow.request (answers_in flow.request seen).interim
-waits flow (coming_down server sent) seen = sends_coming flow seen
-waits flow _ seen = []
+abbrev pub waits : Place → Flow → Doing → Sight → List Command
+waits place flow (response_head server sent) seen = sends_up place flow server sent seen ++ interim_commands flow.request (answers_in flow.request seen).interim
+waits place flow (response_body server sent most) seen = sends_up place flow server sent seen
+waits place flow (coming_down server sent) seen = sends_up place flow server sent seen ++ sends_coming flow seen
+waits place flow _ seen = []
 
-abbrev pub so_far : Stage → Sight → List Command
-so_far (busy at flow doing) seen = waits flow doing seen
-so_far _ seen = []
+abbrev pub so_far : Terms → Stage → Sight → List Command
+so_far terms (busy at flow doing) seen = waits terms.place flow doing seen
+so_far terms _ seen = []
 
 -- ---- what it owes behind its ask: a dial closes the parked side, which no flow takes any more
 
 abbrev pub parts : At → Doing → Sight → List Command
-parts at connection seen = shut_server (server_parked at.parked seen)
+parts at (connection sent) seen = shut_server (server_parked at.parked seen)
 parts at _ seen = []
 
 abbrev pub behind : Stage → Sight → List Command
@@ -347,10 +488,10 @@ behind _ seen = []
 -- ---- what a reply brings
 
 abbrev pub turns : Terms → At → Flow → Doing → Sight → Timed Reply → Turn Stage Command
-turns terms at flow (request_body given) seen answer = turn_body terms.place at flow (request_in seen) seen answer
-turns terms at flow connection seen answer = turn_dial terms.place at flow answer seen.closed
-turns terms at flow (response_head server sent) seen answer = turn_answer terms at flow server (answers_in flow.request seen).final seen answer
-turns terms at flow (response_body server sent most) seen answer = turn_returned at flow server (answers_in flow.request seen).final seen answer
+turns terms at flow (request_body given most) seen answer = turn_body terms.place at flow (request_in seen) seen answer
+turns terms at flow (connection sent) seen answer = turn_dial terms.place at flow sent answer seen.closed
+turns terms at flow (response_head server sent) seen answer = turn_answer terms at flow server sent (answers_in flow.request seen).final seen answer
+turns terms at flow (response_body server sent most) seen answer = turn_returned at flow server sent (answers_in flow.request seen).final seen answer
 turns terms at flow (coming_down server sent) seen answer = stops
 turns terms at flow (upgraded server) seen answer = stops
 turns terms at flow given_head seen answer = turn_given_head at (given_at flow seen.now) answer (server_parked at.parked seen) seen.closed
@@ -393,7 +534,7 @@ parked_of place = None
 
 -- where a conversation stands at first
 abbrev pub begin : Stage → Standing
-begin stage = record { stage = stage; since = record { events = 0; moment = 0 }; opened = 0; used = record { client = 0; server = 0 } }
+begin stage = record { stage = stage; since = record { events = 0; moment = 0 }; opened = 0; used = record { client = 0; server = 0 }; told = 0 }
 
 -- how many events had come when the dial of its server was answered: they are counted where a connection is awaited
 abbrev pub opened_by : Bool → ℕ → ℕ → ℕ
@@ -401,29 +542,31 @@ opened_by true opened come = come
 opened_by false opened come = opened
 
 -- A stage that was come to from another over a prefix, by a reply at this moment: it stands from here on.
-abbrev pub stands : Standing → ℕ → List (Timed Event) → Stage → Standing
-stands from moment prefix stage = record {
+abbrev pub stands : Terms → Standing → ℕ → List (Timed Event) → Stage → Standing
+stands terms from moment prefix stage = record {
   stage = stage;
   since = from_here moment prefix;
   opened = opened_by (dials_at from.stage) from.opened (length prefix);
   used = used_by_turn from.stage (sight_over from prefix) from.used stage;
+  told = told_behind terms.place from.stage (sight_over from prefix);
 }
 
 -- A stage that went on without a reply in this sight stands since before, behind what it used.
-abbrev pub passed : (Stage → Stage) → Standing → Sight → Standing
-passed onward place seen = record place { stage = onward (pass place.stage seen).stage; used = used_by_pass place.stage seen place.used }
+abbrev pub passed : (Stage → Stage) → Terms → Standing → Sight → Standing
+passed onward terms place seen =
+    record place { stage = onward (pass terms place.stage seen).stage; used = used_by_pass terms place.stage seen place.used }
 
 -- the chain of one flow, or of flows in sequence
 abbrev pub http_chain : (Stage → Stage) → Terms → Chain Standing Event Reply Command
 http_chain onward terms = record {
   pass = λ place prefix.
-      let seen = sight_over place prefix in record { owed = (pass place.stage seen).owed; stage = passed onward place seen };
+      let seen = sight_over place prefix in record { owed = (pass terms place.stage seen).owed; stage = passed onward terms place seen };
   look = λ place prefix. look terms place.stage (sight_over place prefix);
-  so_far = λ place prefix. so_far place.stage (sight_over place prefix);
+  so_far = λ place prefix. so_far terms place.stage (sight_over place prefix);
   behind = λ place prefix. behind place.stage (sight_over place prefix);
   turn = λ place prefix answer.
       let turned = turn terms place.stage (sight_over place prefix) answer in
-      record { owed = turned.owed; stage = stands place answer.moment prefix (onward turned.stage) };
+      record { owed = turned.owed; stage = stands terms place answer.moment prefix (onward turned.stage) };
 }
 
 -- the chain is that of one flow, or of flows in sequence

@@ -4,8 +4,8 @@ use Rattle.px_chain.specs.Stages.{Doing, Stage, busy, coming_down, connection, g
 
 -- A flow asks four hooks and a dial at most: those from here on.
 abbrev pub doing_left : Doing → ℕ
-doing_left (request_body given) = 4
-doing_left connection = 3
+doing_left (request_body given most) = 4
+doing_left (connection how) = 3
 doing_left (response_head side how) = 2
 doing_left (response_body side how most) = 1
 doing_left (coming_down side how) = 0

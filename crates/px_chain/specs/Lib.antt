@@ -1,5 +1,7 @@
+pub mod Behind
 pub mod Chain
 pub mod Coming
+pub mod Going
 pub mod Left
 pub mod ReadBack
 pub mod Sent

@@ -1,6 +1,6 @@
 -- What a stage looks at, and nothing else: the joined bytes of the client and of the one server's side that is open, behind those that
 -- flows before have used, whether each closed, and the moment.
-use Rattle.std.specs.Prelude.{ℕ, ◌≤◌, ◌+◌, Bool, true, false, ◌||◌, if◌then◌else◌, List, [], ◌++◌, length, drop, Option, Some, None}
+use Rattle.std.specs.Prelude.{ℕ, ◌≤◌, ◌+◌, Bool, false, ◌||◌, if◌then◌else◌, List, [], ◌++◌, length, drop, Option, Some, None}
 use Rattle.px_message.specs.declared.request.Request.{Request}
 use Rattle.px_event.specs.declared.event.Event.{Event}
 use Rattle.px_event.specs.declared.side.Side.TheVariants.{Client, Server}
@@ -10,7 +10,7 @@ use Rattle.px_read.specs.declared.head.RequestHead.{RequestHead}
 use Rattle.px_exchange.specs.declared.ending.Used.{Used}
 use Rattle.px_exchange.specs.declared.ending.Used.TheVariants.{NoServer, ByServer}
 use Rattle.px_exchange.specs.Requests.{is_head}
-use Rattle.px_chain.specs.Stages.{Doing, Parked, Stage, busy, connection, request_body, response_body, side_of}
+use Rattle.px_chain.specs.Stages.{Parked, Stage, busy, request_body, response_body, side_of}
 use Rattle.px_event.specs.Sides.{closes, piece_of}
 use Rattle.px_chain.specs.Streams.{Since, bytes_of, client_closed, is_closed, now_over}
 
@@ -21,6 +21,8 @@ pub record Sight : Type 0 where
   -- of the server's side, the flow's own or one that is parked, likewise
   pub server : List ℕ
   pub shut : Bool
+  -- how many bytes of the text of a request that goes up earlier asks owed
+  pub told : ℕ
   pub now : ℕ
 
 -- ---- what is read of it
@@ -60,11 +62,11 @@ left_by _ bytes = bytes
 
 -- how many of the client's bytes are used where a stage goes on in this sight: those of a whole request
 abbrev pub client_used : Stage → Sight → ℕ → ℕ
-client_used (busy at flow (request_body given)) seen used = used_with (request_in seen) used
+client_used (busy at flow (request_body given most)) seen used = used_with (request_in seen) used
 client_used _ seen used = used
 
 abbrev pub client_left : Stage → Sight → List ℕ
-client_left (busy at flow (request_body given)) seen = left_by (request_in seen) seen.client
+client_left (busy at flow (request_body given most)) seen = left_by (request_in seen) seen.client
 client_left _ seen = seen.client
 
 -- and of the server's: those of the responses to a request, where the final one is whole
@@ -85,12 +87,14 @@ server_left _ seen = seen.server
 -- ---- a stage over a prefix
 
 -- A stage, since when it stands, how many events had come when the dial of its server's side was answered (a server is heard in the
--- events behind those), and how many bytes of the client and of that side flows before have used.
+-- events behind those), how many bytes of the client and of that side flows before have used, and how many of the text of a request that
+-- goes up earlier asks owed.
 pub record Standing : Type 0 where
   pub stage : Stage
   pub since : Since
   pub opened : ℕ
   pub used : UsedBytes
+  pub told : ℕ
 
 abbrev pub bytes_over : Option ℕ → ℕ → List (Timed Event) → List ℕ
 bytes_over None opened prefix = []
@@ -100,17 +104,18 @@ abbrev pub shut_over : Option ℕ → ℕ → List (Timed Event) → Bool
 shut_over None opened prefix = false
 shut_over (Some server) opened prefix = is_closed (Server server) (drop opened prefix)
 
-abbrev pub sight_of : Option ℕ → Since → ℕ → UsedBytes → List (Timed Event) → Sight
-sight_of side since opened used prefix = record {
+abbrev pub sight_of : Option ℕ → Since → ℕ → UsedBytes → ℕ → List (Timed Event) → Sight
+sight_of side since opened used told prefix = record {
   client = drop used.client (bytes_of Client prefix);
   closed = client_closed prefix;
   server = drop used.server (bytes_over side opened prefix);
   shut = shut_over side opened prefix;
+  told = told;
   now = now_over since prefix;
 }
 
 abbrev pub sight_over : Standing → List (Timed Event) → Sight
-sight_over place prefix = sight_of (side_of place.stage) place.since place.opened place.used prefix
+sight_over place prefix = sight_of (side_of place.stage) place.since place.opened place.used place.told prefix
 
 -- it stands since an event of the prefix, and so does its server's side; and what was used of both had come
 pub record IsWithin (place : Standing) (prefix : List (Timed Event)) : Type 0 where
@@ -136,50 +141,6 @@ sight_with side seen event now = record {
   closed = seen.closed || closes Client event;
   server = server_with side seen.shut seen.server event;
   shut = shut_with side seen.shut event;
+  told = seen.told;
   now = now;
-}
-
--- ---- behind a reply
-
--- a dial is awaited: what its answer leads to has a new side, or none
-abbrev pub is_dialling : Doing → Bool
-is_dialling connection = true
-is_dialling _ = false
-
-abbrev pub dials_at : Stage → Bool
-dials_at (busy at flow doing) = is_dialling doing
-dials_at _ = false
-
--- What is seen of the server's side where a reply led: of a new one nothing, and else what was left of it.
-abbrev pub server_behind : Bool → Option ℕ → List ℕ → List ℕ
-server_behind true side server = []
-server_behind false None server = []
-server_behind false (Some side) server = server
-
-abbrev pub shut_behind : Bool → Option ℕ → Bool → Bool
-shut_behind true side shut = false
-shut_behind false None shut = false
-shut_behind false (Some side) shut = shut
-
--- how many of its bytes were used there: of a new one none
-abbrev pub used_behind : Bool → Option ℕ → ℕ → ℕ
-used_behind true side used = 0
-used_behind false None used = 0
-used_behind false (Some side) used = used
-
--- the bytes that are used where a reply led from the one stage to the other in this sight
-abbrev pub used_by_turn : Stage → Sight → UsedBytes → Stage → UsedBytes
-used_by_turn from seen used to = record {
-  client = client_used from seen used.client;
-  server = used_behind (dials_at from) (side_of to) (server_used from seen used.server);
-}
-
--- the sight behind a reply at this moment, which led from the one stage to the other
-abbrev pub sight_behind : Stage → Sight → ℕ → Stage → Sight
-sight_behind from seen moment to = record {
-  client = client_left from seen;
-  closed = seen.closed;
-  server = server_behind (dials_at from) (side_of to) (server_left from seen);
-  shut = shut_behind (dials_at from) (side_of to) seen.shut;
-  now = moment;
 }

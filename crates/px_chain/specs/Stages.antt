@@ -19,17 +19,20 @@ pub record At : Type 0 where
   -- the side that waits for a flow, while none uses one
   pub parked : Option Parked
 
--- how the request stands while its response is awaited
+-- how the request stands while its server or its response is awaited
 pub data Sent : Type 0 where
   -- all of it was sent on
   all_sent : Sent
+  -- it is streamed: it is sent on as it comes, and is not whole yet
+  going_up : Sent
 
 -- what is awaited for a flow
 pub data Doing : Type 0 where
-  -- the hook of its head was answered, and its request's body is awaited; a response may be given already
-  request_body : (given : Option Response) → Doing
-  -- the request is whole and its hook was answered: the connection to its server
-  connection : Doing
+  -- the hook of its head was answered, and its request's body is awaited, of which no more is kept than that reply allowed, if it told a
+  -- size; a response may be given already
+  request_body : (given : Option Response) (most : Option ℕ) → Doing
+  -- the request is whole and its hook was answered, or it is streamed: the connection to its server
+  connection : (sent : Sent) → Doing
   -- the server is connected: the head of its final response, and behind that head's hook the response's body, of which no more is
   -- kept than the reply to that hook allowed, if it told a size
   response_head : (server : ℕ) (sent : Sent) → Doing

@@ -11,20 +11,24 @@ use Rattle.px_event.specs.Chain.{Asks, at_its_step, Chain, Ends, found, later, L
 use Rattle.px_event.specs.Laws.{IsFound, IsSettled}
 use Rattle.px_exchange.specs.declared.terms.Terms.{Terms}
 use Rattle.px_chain.specs.Chain.{behind, http_chain, look, pass, sight_past, so_far, stands, turn, IsOnward}
-use Rattle.px_chain.specs.Sights.{Sight, Standing, sight_behind, sight_over, sight_with}
+use Rattle.px_chain.specs.Behind.{sight_behind}
+use Rattle.px_chain.specs.Sights.{Sight, Standing, sight_over, sight_with}
 use Rattle.px_chain.specs.Stages.{Stage, side_of}
 use Rattle.px_chain.specs.Streams.{client_closed, now_over}
 use Rattle.px_chain.proofs.ChainLaws.{open_still}
 use Rattle.px_chain.proofs.FrontLaws.{now_here}
 use Rattle.px_chain.proofs.SightLaws.{IsSideFrom, onward_from, sight_turned, side_onward}
-use Rattle.px_cuts.specs.Alike.{PlacesAlike, HeardEarly}
+use Rattle.px_cuts.specs.Alike.{HeardEarly, MayBeCut, MayWait, PlacesAlike, for_nothing, on_from}
 use Rattle.px_cuts.specs.Cuts.{AlikeSeen, IsDialled, MayBeHeard, MayWaitFor, retimed, MayStand}
 use Rattle.px_cuts.specs.Shown.{hears, look_over, moment_at, passed_over, retimed_stage, shown_over, shown_sight}
-use Rattle.px_cuts.proofs.PlaceLaws.{behind_late, behind_retimed, hears_behind, may_more, may_passed, may_turned, moment_alike, onward_leads, passed_leads, passed_shown, shown_more, side_retimed, moment_led, now_at, passed_stage, retimed_on, sight_on}
+use Rattle.px_cuts.proofs.PlaceLaws.{behind_late, behind_retimed, cut_on, hears_behind, may_more, may_passed, may_turned, moment_alike, moment_led, now_at, onward_leads, passed_leads, passed_shown, passed_stage, retimed_on, shown_more, side_retimed, sight_on}
 use Rattle.px_cuts.proofs.ShownLaws.{behind_shown, look_shown, pass_shown, retimed_look, retimed_reply, retimed_turn, so_far_shown, turn_shown}
-use Rattle.px_cuts.proofs.StayLaws.{finds_alike, FindsAlike, leaves_more, passes_with, ReadersStay, PassesWith}
+use Rattle.px_cuts.proofs.StayLaws.{FindsAlike, ReadersStay, finds_alike, leaves_more}
+use Rattle.px_cuts.proofs.PassLaws.{PassesWith, passes_with}
+use Rattle.px_cuts.proofs.NextLaws.{beside_on, beside_passed, beside_retimed, beside_turned, cut_retimed}
 use Rattle.std.proofs.lemmas.List.{map-append}
-use Rattle.px_cuts.proofs.WorkLaws.{works}
+use Rattle.px_cuts.proofs.QuietLaws.{none_retimed}
+use Rattle.px_cuts.proofs.WorkLaws.{MayWork, begins_not, may_cut, works}
 
 -- two changed at once
 both : {A B C : Type 0} (f : A → B → C) (a a' : A) (b b' : B) → a ≡ a' → b ≡ b' → f a b ≡ f a' b'
@@ -63,32 +67,32 @@ module _ (see : ℕ → ℕ) where
 
     -- ---- places that show the same
 
-    pub owed_alike : (s : Standing) (f : List (Timed Event)) (t : Standing) (g : List (Timed Event)) → PlacesAlike see s f t g →
-        AlikeSeen see (pass s.stage (sight_over s f)).owed (pass t.stage (sight_over t g)).owed
+    pub owed_alike : (s : Standing) (f : List (Timed Event)) (t : Standing) (g : List (Timed Event)) → PlacesAlike see terms s f t g →
+        AlikeSeen see (pass terms s.stage (sight_over s f)).owed (pass terms t.stage (sight_over t g)).owed
     owed_alike s f t g place =
         ap (λ turned. turned.owed)
-        (pass_shown see s.stage (sight_over s f)
-        ∙ (both pass (retimed_stage see s.stage) (retimed_stage see t.stage) (shown s f) (shown t g) place.stages place.sights ∙ sym (pass_shown see t.stage (sight_over t g))))
+        (pass_shown see terms s.stage (sight_over s f)
+        ∙ (both (pass terms) (retimed_stage see s.stage) (retimed_stage see t.stage) (shown s f) (shown t g) place.stages place.sights ∙ sym (pass_shown see terms t.stage (sight_over t g))))
 
-    pub pass_alike : (s : Standing) (f : List (Timed Event)) (t : Standing) (g : List (Timed Event)) → PlacesAlike see s f t g →
-        PlacesAlike see (passed_over onward s f) f (passed_over onward t g) g
+    pub pass_alike : (s : Standing) (f : List (Timed Event)) (t : Standing) (g : List (Timed Event)) → PlacesAlike see terms s f t g →
+        PlacesAlike see terms (passed_over onward terms s f) f (passed_over onward terms t g) g
     pass_alike s f t g place = record {
-      stages = passed_stage see onward goes s.stage (sight_over s f)
-          ∙ (both (λ a v. onward (pass a v).stage) (retimed_stage see s.stage) (retimed_stage see t.stage) (shown s f) (shown t g) place.stages place.sights
-          ∙ sym (passed_stage see onward goes t.stage (sight_over t g)));
-      sights = passed_shown see onward goes s f
-          ∙ (both (sight_on onward) (retimed_stage see s.stage) (retimed_stage see t.stage) (shown s f) (shown t g) place.stages place.sights ∙ sym (passed_shown see onward goes t g));
-      may = may_passed onward goes s f place.may;
-      other_may = may_passed onward goes t g place.other_may;
+      stages = passed_stage see onward goes terms s.stage (sight_over s f)
+          ∙ (both (λ a v. onward (pass terms a v).stage) (retimed_stage see s.stage) (retimed_stage see t.stage) (shown s f) (shown t g) place.stages place.sights
+          ∙ sym (passed_stage see onward goes terms t.stage (sight_over t g)));
+      sights = passed_shown see onward goes terms s f
+          ∙ (both (sight_on onward terms) (retimed_stage see s.stage) (retimed_stage see t.stage) (shown s f) (shown t g) place.stages place.sights ∙ sym (passed_shown see onward goes terms t g));
+      may = may_passed terms onward goes s f place.may;
+      other_may = may_passed terms onward goes t g place.other_may;
     }
 
-    pub owes_alike : (s : Standing) (f : List (Timed Event)) (t : Standing) (g : List (Timed Event)) → PlacesAlike see s f t g → OwesAlike chain (AlikeSeen see) s f t g
+    pub owes_alike : (s : Standing) (f : List (Timed Event)) (t : Standing) (g : List (Timed Event)) → PlacesAlike see terms s f t g → OwesAlike chain (AlikeSeen see) s f t g
     owes_alike s f t g place = record {
       look = found_alike (look_over terms s f) (look_over terms t g)
           (look_shown see terms s.stage (sight_over s f)
           ∙ (both (look terms) (retimed_stage see s.stage) (retimed_stage see t.stage) (shown s f) (shown t g) place.stages place.sights ∙ sym (look_shown see terms t.stage (sight_over t g))));
-      so_far = so_far_shown see s.stage (sight_over s f)
-          ∙ (both so_far (retimed_stage see s.stage) (retimed_stage see t.stage) (shown s f) (shown t g) place.stages place.sights ∙ sym (so_far_shown see t.stage (sight_over t g)));
+      so_far = so_far_shown see terms s.stage (sight_over s f)
+          ∙ (both (so_far terms) (retimed_stage see s.stage) (retimed_stage see t.stage) (shown s f) (shown t g) place.stages place.sights ∙ sym (so_far_shown see terms t.stage (sight_over t g)));
       behind = behind_shown see s.stage (sight_over s f)
           ∙ (both behind (retimed_stage see s.stage) (retimed_stage see t.stage) (shown s f) (shown t g) place.stages place.sights ∙ sym (behind_shown see t.stage (sight_over t g)));
     }
@@ -107,12 +111,12 @@ module _ (see : ℕ → ℕ) where
 
     -- what is shown there
     led_shows : (s : Standing) (f : List (Timed Event)) (answer : Timed Reply) →
-        shown (stands s answer.moment f (led s f answer)) f ≡ sight_behind s.stage (shown s f) (moment_at see (led s f answer) answer.moment) (led s f answer)
+        shown (stands terms s answer.moment f (led s f answer)) f ≡ sight_behind terms.place s.stage (shown s f) (moment_at see (led s f answer) answer.moment) (led s f answer)
     led_shows s f answer =
         let seen : Sight = sight_over s f in
         let there : Stage = led s f answer in
         ap (λ v. shown_sight see there v) (sight_turned onward goes terms s f answer)
-        ∙ sym (behind_late s.stage there seen (moment_at see s.stage seen.now) (moment_at see there answer.moment))
+        ∙ sym (behind_late terms.place s.stage there seen (moment_at see s.stage seen.now) (moment_at see there answer.moment))
 
     led_alike : (s : Standing) (f : List (Timed Event)) (t : Standing) (g : List (Timed Event)) (answer other : Timed Reply) →
         retimed_turn see (turn terms s.stage (sight_over s f) answer) ≡ retimed_turn see (turn terms t.stage (sight_over t g) other) →
@@ -123,16 +127,16 @@ module _ (see : ℕ → ℕ) where
 
     -- behind the same stages, seen so, and the same sights, at the same moment
     behind_alike : (a a' : Stage) (v w : Sight) (now other : ℕ) (b b' : Stage) → retimed_stage see a ≡ retimed_stage see a' → v ≡ w → now ≡ other → retimed_stage see b ≡ retimed_stage see b' →
-        sight_behind a v now b ≡ sight_behind a' w other b'
+        sight_behind terms.place a v now b ≡ sight_behind terms.place a' w other b'
     behind_alike a a' v w now other b b' one two three four =
-        sym (behind_retimed see a b v now)
-        ∙ (ap (λ x. sight_behind x v now (retimed_stage see b)) one
-        ∙ (ap (λ x. sight_behind (retimed_stage see a') x now (retimed_stage see b)) two
-        ∙ (ap (λ n. sight_behind (retimed_stage see a') w n (retimed_stage see b)) three
-        ∙ (ap (λ x. sight_behind (retimed_stage see a') w other x) four ∙ behind_retimed see a' b' w other))))
+        sym (behind_retimed see terms.place a b v now)
+        ∙ (ap (λ x. sight_behind terms.place x v now (retimed_stage see b)) one
+        ∙ (ap (λ x. sight_behind terms.place (retimed_stage see a') x now (retimed_stage see b)) two
+        ∙ (ap (λ n. sight_behind terms.place (retimed_stage see a') w n (retimed_stage see b)) three
+        ∙ (ap (λ x. sight_behind terms.place (retimed_stage see a') w other x) four ∙ behind_retimed see terms.place a' b' w other))))
 
-    pub turn_alike : (s : Standing) (f : List (Timed Event)) (t : Standing) (g : List (Timed Event)) → PlacesAlike see s f t g → (answer other : Timed Reply) → RepliesAlike answer other →
-        TurnsAlike (AlikeSeen see) (λ a b. PlacesAlike see a f b g) (chain.turn s f answer) (chain.turn t g other)
+    pub turn_alike : (s : Standing) (f : List (Timed Event)) (t : Standing) (g : List (Timed Event)) → PlacesAlike see terms s f t g → (answer other : Timed Reply) → RepliesAlike answer other →
+        TurnsAlike (AlikeSeen see) (λ a b. PlacesAlike see terms a f b g) (chain.turn s f answer) (chain.turn t g other)
     turn_alike s f t g place answer other same =
         let turned : retimed_turn see (turn terms s.stage (sight_over s f) answer) ≡ retimed_turn see (turn terms t.stage (sight_over t g) other) =
         turn_shown see terms s.stage (sight_over s f) answer
@@ -146,28 +150,28 @@ module _ (see : ℕ → ℕ) where
             sights = led_shows s f answer
                 ∙ (behind_alike s.stage t.stage (shown s f) (shown t g) (moment_at see (led s f answer) answer.moment) (moment_at see (led t g other) other.moment) (led s f answer) (led t g other)
                 place.stages place.sights (moment_alike see (led s f answer) (led t g other) answer.moment other.moment stages same.moment) stages ∙ sym (led_shows t g other));
-            may = may_turned onward goes terms s f answer place.may;
-            other_may = may_turned onward goes terms t g other place.other_may;
+            may = may_turned terms onward goes s f answer place.may;
+            other_may = may_turned terms onward goes t g other place.other_may;
           };
         }
 
-    pub more_alike : (s : Standing) (f : List (Timed Event)) (t : Standing) (g : List (Timed Event)) → PlacesAlike see s f t g → look_over terms s f ≡ NotYet → (e other : Timed Event) →
-        e.value ≡ other.value → see e.moment ≡ see other.moment → PlacesAlike see s (f ++ e ∷ []) t (g ++ other ∷ [])
+    pub more_alike : (s : Standing) (f : List (Timed Event)) (t : Standing) (g : List (Timed Event)) → PlacesAlike see terms s f t g → look_over terms s f ≡ NotYet → (e other : Timed Event) →
+        e.value ≡ other.value → see e.moment ≡ see other.moment → PlacesAlike see terms s (f ++ e ∷ []) t (g ++ other ∷ [])
     more_alike s f t g place is e other same once =
         let open_client : client_closed f ≡ false = open_still terms s.stage (sight_over s f) is in
         record {
           stages = place.stages;
-          sights = shown_more see s f e place.may open_client
+          sights = shown_more see terms s f e place.may open_client
               ∙ (both (λ a v. sight_with a v e.value (moment_at see s.stage e.moment)) (side_of s.stage) (side_of t.stage) (shown s f) (shown t g) (same_sides s.stage t.stage place.stages) place.sights
               ∙ (ap (λ x. sight_with (side_of t.stage) (shown t g) x (moment_at see s.stage e.moment)) same
               ∙ (ap (λ n. sight_with (side_of t.stage) (shown t g) other.value n) (moment_alike see s.stage t.stage e.moment other.moment place.stages once)
-              ∙ sym (shown_more see t g other place.other_may (sym (ap (λ v. v.closed) place.sights) ∙ open_client)))));
-          may = may_more s f e place.may;
-          other_may = may_more t g other place.other_may;
+              ∙ sym (shown_more see terms t g other place.other_may (sym (ap (λ v. v.closed) place.sights) ∙ open_client)))));
+          may = may_more terms s f e place.may;
+          other_may = may_more terms t g other place.other_may;
         }
 
     -- Places that show the same look alike.
-    pub alike : Alike chain (AlikeSeen see) (PlacesAlike see)
+    pub alike : Alike chain (AlikeSeen see) (PlacesAlike see terms)
     alike = record {
       passes = λ s f t g place. record { owed = owed_alike s f t g place; stage = pass_alike s f t g place };
       owes = λ s f t g place settled other. owes_alike s f t g place;
@@ -181,6 +185,15 @@ module _ (see : ℕ → ℕ) where
     heard_on Client s t on is = tt
     heard_on (Server server) s t on is = on server is
 
+    -- where something is found, it may wait from there on
+    waits_on : (side : Side) (s : Standing) (f : List (Timed Event)) → MayWait see onward terms side s f → IsFound (look_over terms (passed_over onward terms s f) f) → MayBeCut terms side s.stage
+    waits_on side s f (on_from cuts) found = cuts
+    waits_on side s f (for_nothing nothing none) found = absurd (nothing found)
+
+    waits_work : (side : Side) (s : Standing) (f : List (Timed Event)) → MayWait see onward terms side s f → MayWork terms side (retimed_stage see s.stage) (shown s f)
+    waits_work side s f (on_from cuts) = may_cut (cut_retimed see terms side s.stage cuts)
+    waits_work side s f (for_nothing nothing none) = begins_not (none_retimed terms.place see s.stage (shown s f) none)
+
     module _ (readers : ReadersStay) (event : Stamped Event) where
       -- by the side of the stage seen so
       heard_so : (last : Stamp) (s : Standing) (f : List (Timed Event)) (t : Standing) (g : List (Timed Event)) (place : HeardEarly see onward terms event last s f t g) →
@@ -188,65 +201,69 @@ module _ (see : ℕ → ℕ) where
       heard_so last s f t g place = ap (λ x. hears x (shown s f) (events.Piece place.side place.bytes)) (side_retimed see s.stage) ∙ place.hears
 
       -- where something is found behind passing, seen so
-      passed_finds : (s : Standing) (f : List (Timed Event)) → retimed_look see (look_over terms (passed_over onward s f) f)
-          ≡ look terms (onward (pass (retimed_stage see s.stage) (shown s f)).stage) (sight_on onward (retimed_stage see s.stage) (shown s f))
+      passed_finds : (s : Standing) (f : List (Timed Event)) → retimed_look see (look_over terms (passed_over onward terms s f) f)
+          ≡ look terms (onward (pass terms (retimed_stage see s.stage) (shown s f)).stage) (sight_on onward terms (retimed_stage see s.stage) (shown s f))
       passed_finds s f =
           let v : Sight = sight_over s f in
-          let there : Standing = passed_over onward s f in
+          let there : Standing = passed_over onward terms s f in
           look_shown see terms there.stage (sight_over there f)
-          ∙ both (look terms) (retimed_stage see there.stage) (onward (pass (retimed_stage see s.stage) (shown s f)).stage) (shown there f) (sight_on onward (retimed_stage see s.stage) (shown s f))
-          (passed_stage see onward goes s.stage v) (passed_shown see onward goes s f)
+          ∙ both (look terms) (retimed_stage see there.stage) (onward (pass terms (retimed_stage see s.stage) (shown s f)).stage) (shown there f) (sight_on onward terms (retimed_stage see s.stage) (shown s f))
+          (passed_stage see onward goes terms s.stage v) (passed_shown see onward goes terms s f)
 
       -- the piece behind passing
       heard_behind : (last : Stamp) (s : Standing) (f : List (Timed Event)) (t : Standing) (g : List (Timed Event)) (place : HeardEarly see onward terms event last s f t g) →
-          let first = onward (pass (retimed_stage see s.stage) (shown s f)).stage in
-          hears (side_of (passed_over onward s f).stage) (shown (passed_over onward s f) f) (events.Piece place.side place.bytes)
-          ≡ hears (side_of first) (sight_on onward (retimed_stage see s.stage) (shown s f)) (events.Piece place.side place.bytes)
+          let first = onward (pass terms (retimed_stage see s.stage) (shown s f)).stage in
+          hears (side_of (passed_over onward terms s f).stage) (shown (passed_over onward terms s f) f) (events.Piece place.side place.bytes)
+          ≡ hears (side_of first) (sight_on onward terms (retimed_stage see s.stage) (shown s f)) (events.Piece place.side place.bytes)
       heard_behind last s f t g place =
-          let there : Standing = passed_over onward s f in
-          both (λ a x. hears a x (events.Piece place.side place.bytes)) (side_of there.stage) (side_of (onward (pass (retimed_stage see s.stage) (shown s f)).stage))
-          (shown there f) (sight_on onward (retimed_stage see s.stage) (shown s f))
-          (sym (side_retimed see there.stage) ∙ ap side_of (passed_stage see onward goes s.stage (sight_over s f))) (passed_shown see onward goes s f)
+          let there : Standing = passed_over onward terms s f in
+          both (λ a x. hears a x (events.Piece place.side place.bytes)) (side_of there.stage) (side_of (onward (pass terms (retimed_stage see s.stage) (shown s f)).stage))
+          (shown there f) (sight_on onward terms (retimed_stage see s.stage) (shown s f))
+          (sym (side_retimed see there.stage) ∙ ap side_of (passed_stage see onward goes terms s.stage (sight_over s f))) (passed_shown see onward goes terms s f)
 
       early_pass : (last : Stamp) (s : Standing) (f : List (Timed Event)) (t : Standing) (g : List (Timed Event)) (place : HeardEarly see onward terms event last s f t g) →
-          IsFound (look_over terms (passed_over onward s f) f) → PassesWith terms readers place.side place.bytes (retimed_stage see s.stage) (shown s f)
+          IsFound (look_over terms (passed_over onward terms s f) f) → PassesWith terms readers place.side place.bytes (retimed_stage see s.stage) (shown s f)
       early_pass last s f t g place is =
           let P : Look Command → Type 0 = IsFound in
           passes_with terms readers place.side place.bytes onward goes (retimed_stage see s.stage) (shown s f) place.open_client
-          (subst P (passed_finds s f) (is_found_seen (look_over terms (passed_over onward s f) f) is))
+          (cut_retimed see terms place.side s.stage (waits_on place.side s f place.waits is)) (beside_retimed see place.side s.stage (shown s f) place.beside)
+          (subst P (passed_finds s f) (is_found_seen (look_over terms (passed_over onward terms s f) f) is))
 
       early_passes : (last : Stamp) (s : Standing) (f : List (Timed Event)) (t : Standing) (g : List (Timed Event)) → HeardEarly see onward terms event last s f t g →
-          IsFound (look_over terms (passed_over onward s f) f) →
+          IsFound (look_over terms (passed_over onward terms s f) f) →
           TurnsAlike (AlikeSeen see) (λ a b. HeardEarly see onward terms event last a f b g) (chain.pass s f) (chain.pass t g)
       early_passes last s f t g place is =
           let v : Sight = sight_over s f in
           let stage : Stage = retimed_stage see s.stage in
           let piece : Event = events.Piece place.side place.bytes in
           let more : Sight = hears (side_of stage) (shown s f) piece in
-          let first : Stage = onward (pass stage (shown s f)).stage in
+          let first : Stage = onward (pass terms stage (shown s f)).stage in
           let same = early_pass last s f t g place is in
-          let turned : retimed_turn see (pass s.stage v) ≡ retimed_turn see (pass t.stage (sight_over t g)) =
-          pass_shown see s.stage v
+          let cuts = waits_on place.side s f place.waits is in
+          let turned : retimed_turn see (pass terms s.stage v) ≡ retimed_turn see (pass terms t.stage (sight_over t g)) =
+          pass_shown see terms s.stage v
           ∙ (sym same.stays
-          ∙ (both pass stage (retimed_stage see t.stage) more (shown t g) place.stages (heard_so last s f t g place) ∙ sym (pass_shown see t.stage (sight_over t g)))) in
+          ∙ (both (pass terms) stage (retimed_stage see t.stage) more (shown t g) place.stages (heard_so last s f t g place) ∙ sym (pass_shown see terms t.stage (sight_over t g)))) in
           record {
             owed = ap (λ x. x.owed) turned;
             stage = record {
               side = place.side;
               bytes = place.bytes;
               is_piece = place.is_piece;
-              stages = retimed_on see onward goes (pass s.stage v).stage
-                  ∙ (ap (λ x. onward x.stage) turned ∙ sym (retimed_on see onward goes (pass t.stage (sight_over t g)).stage));
+              stages = retimed_on see onward goes (pass terms s.stage v).stage
+                  ∙ (ap (λ x. onward x.stage) turned ∙ sym (retimed_on see onward goes (pass terms t.stage (sight_over t g)).stage));
               hears = heard_behind last s f t g place
-                  ∙ (ap (λ x. hears x (sight_on onward stage (shown s f)) piece) (side_onward onward goes (pass stage (shown s f)).stage)
+                  ∙ (ap (λ x. hears x (sight_on onward terms stage (shown s f)) piece) (side_onward onward goes (pass terms stage (shown s f)).stage)
                   ∙ (ap (λ l. (let there : Sight = record l { now = now_at first (shown s f).now } in there)) (sym same.leaves)
-                  ∙ (ap (λ x. (let there : Sight = record (sight_past stage more) { now = now_at (onward x.stage) (shown s f).now } in there)) (sym same.stays)
-                  ∙ (both (sight_on onward) stage (retimed_stage see t.stage) more (shown t g) place.stages (heard_so last s f t g place) ∙ sym (passed_shown see onward goes t g)))));
+                  ∙ (ap (λ x. (let there : Sight = record (sight_past terms stage more) { now = now_at (onward x.stage) (shown s f).now } in there)) (sym same.stays)
+                  ∙ (both (sight_on onward terms) stage (retimed_stage see t.stage) more (shown t g) place.stages (heard_so last s f t g place) ∙ sym (passed_shown see onward goes terms t g)))));
               open_client = place.open_client;
-              comes = moment_led see onward goes s.stage v (later last event.stamp).moment (now_over s.since f) place.comes;
-              heard = λ again. heard_on place.side s.stage (onward (pass s.stage v).stage) (passed_leads onward goes s.stage v).dialled (place.heard is);
-              may = may_passed onward goes s f place.may;
-              other_may = may_passed onward goes t g place.other_may;
+              comes = moment_led see onward goes terms s.stage v (later last event.stamp).moment (now_over s.since f) place.comes;
+              heard = λ again. heard_on place.side s.stage (onward (pass terms s.stage v).stage) (passed_leads terms onward goes s.stage v).dialled (place.heard is);
+              beside = beside_passed see terms onward goes place.side s f cuts place.beside;
+              waits = on_from (cut_on terms place.side s.stage (onward (pass terms s.stage v).stage) (passed_leads terms onward goes s.stage v) cuts);
+              may = may_passed terms onward goes s f place.may;
+              other_may = may_passed terms onward goes t g place.other_may;
             };
           }
 
@@ -255,6 +272,7 @@ module _ (see : ℕ → ℕ) where
       finds last s f t g place is =
           let P : Look Command → Type 0 = IsFound in
           finds_alike terms readers place.side place.bytes (retimed_stage see s.stage) (shown s f) place.open_client
+          (beside_retimed see place.side s.stage (shown s f) place.beside)
           (subst P (look_shown see terms s.stage (sight_over s f)) (is_found_seen (look_over terms s f) is))
 
       early_owes : (last : Stamp) (s : Standing) (f : List (Timed Event)) (t : Standing) (g : List (Timed Event)) → HeardEarly see onward terms event last s f t g → IsFound (look_over terms s f) →
@@ -267,8 +285,8 @@ module _ (see : ℕ → ℕ) where
             look = found_alike (look_over terms s f) (look_over terms t g)
                 (look_shown see terms s.stage (sight_over s f)
                 ∙ (sym same.look ∙ (both (look terms) stage (retimed_stage see t.stage) more (shown t g) place.stages (heard_so last s f t g place) ∙ sym (look_shown see terms t.stage (sight_over t g)))));
-            so_far = so_far_shown see s.stage (sight_over s f)
-                ∙ (sym same.so_far ∙ (both so_far stage (retimed_stage see t.stage) more (shown t g) place.stages (heard_so last s f t g place) ∙ sym (so_far_shown see t.stage (sight_over t g))));
+            so_far = so_far_shown see terms s.stage (sight_over s f)
+                ∙ (sym same.so_far ∙ (both (so_far terms) stage (retimed_stage see t.stage) more (shown t g) place.stages (heard_so last s f t g place) ∙ sym (so_far_shown see terms t.stage (sight_over t g))));
             behind = behind_shown see s.stage (sight_over s f)
                 ∙ (sym same.behind ∙ (both behind stage (retimed_stage see t.stage) more (shown t g) place.stages (heard_so last s f t g place) ∙ sym (behind_shown see t.stage (sight_over t g))));
           }
@@ -285,7 +303,9 @@ module _ (see : ℕ → ℕ) where
           let there = subst P (sym is) tt in
           let same = finds last s f t g place there in
           let Q : Standing → Type 0 = λ x. IsFound (look_over terms x f) in
-          let heard : MayBeHeard place.side s.stage = place.heard (subst Q (sym settled.stays) there) in
+          let found = subst Q (sym settled.stays) there in
+          let heard : MayBeHeard place.side s.stage = place.heard found in
+          let cuts = waits_on place.side s f place.waits found in
           let turned : retimed_turn see (turn terms s.stage (sight_over s f) answer) ≡ retimed_turn see (turn terms t.stage (sight_over t g) answer) =
           turn_shown see terms s.stage (sight_over s f) answer
           ∙ (sym (same.turn (retimed_reply see answer))
@@ -295,7 +315,8 @@ module _ (see : ℕ → ℕ) where
           let t' : Stage = led t g answer in
           let stages : retimed_stage see s' ≡ retimed_stage see t' = led_alike s f t g answer answer turned in
           let from : IsSideFrom s.stage (side_of s') = onward_from onward goes terms s.stage (sight_over s f) answer in
-          let leaves = leaves_more terms readers place.side place.bytes s.stage (sight_over s f) (shown s f).now place.open_client there in
+          let leaves = leaves_more terms readers place.side place.bytes s.stage (sight_over s f) (shown s f).now place.open_client
+          (beside_on place.side s.stage (shown s f) (sight_over s f).now place.beside) there in
           record {
             owed = ap (λ x. x.owed) turned;
             stage = record {
@@ -304,63 +325,65 @@ module _ (see : ℕ → ℕ) where
               is_piece = place.is_piece;
               stages = stages;
               hears = ap (λ x. hears (side_of s') x piece) (led_shows s f answer)
-                  ∙ (hears_behind s.stage s' (shown s f) place.side place.bytes (moment_at see s' answer.moment) from heard leaves
+                  ∙ (hears_behind terms.place s.stage s' (shown s f) place.side place.bytes (moment_at see s' answer.moment) from heard leaves
                   ∙ (behind_alike s.stage t.stage (hears (side_of s.stage) (shown s f) piece) (shown t g) (moment_at see s' answer.moment) (moment_at see t' answer.moment) s' t'
                   place.stages place.hears (moment_alike see s' t' answer.moment answer.moment stages refl) stages ∙ sym (led_shows t g answer)));
               open_client = place.open_client;
               comes = moment_alike see s' s' (later reply.stamp event.stamp).moment answer.moment refl waits ∙ sym (ap (λ n. moment_at see s' n) (now_here answer.moment f));
-              heard = λ found. heard_on place.side s.stage s' (onward_leads onward goes terms s.stage (sight_over s f) answer).dialled heard;
-              may = may_turned onward goes terms s f answer place.may;
-              other_may = may_turned onward goes terms t g answer place.other_may;
+              heard = λ again. heard_on place.side s.stage s' (onward_leads terms onward goes s.stage (sight_over s f) answer).dialled heard;
+              beside = beside_turned see terms onward goes place.side s f answer ask place.open_client place.beside heard is;
+              waits = on_from (cut_on terms place.side s.stage s' (onward_leads terms onward goes s.stage (sight_over s f) answer) cuts);
+              may = may_turned terms onward goes s f answer place.may;
+              other_may = may_turned terms onward goes t g answer place.other_may;
             };
           }
 
       -- where nothing is found without it, it is worked off
       early_works_off : (last : Stamp) (s : Standing) (f : List (Timed Event)) (t : Standing) (g : List (Timed Event)) → HeardEarly see onward terms event last s f t g →
-          look_over terms (passed_over onward s f) f ≡ NotYet →
+          look_over terms (passed_over onward terms s f) f ≡ NotYet →
           let prefix = f ++ worked_off last event ∷ [] in
-          TurnsAlike (AlikeSeen see) (λ a b. PlacesAlike see a prefix b g) (passes_over chain (chain.pass s f) prefix) (chain.pass t g)
+          TurnsAlike (AlikeSeen see) (λ a b. PlacesAlike see terms a prefix b g) (passes_over chain (chain.pass s f) prefix) (chain.pass t g)
       early_works_off last s f t g place is =
           let e : Timed Event = worked_off last event in
           let prefix : List (Timed Event) = f ++ e ∷ [] in
-          let there : Standing = passed_over onward s f in
+          let there : Standing = passed_over onward terms s f in
           let stage : Stage = retimed_stage see s.stage in
           let piece : Event = events.Piece place.side place.bytes in
-          let first : Stage = onward (pass stage (shown s f)).stage in
-          let left : Sight = sight_on onward stage (shown s f) in
+          let first : Stage = onward (pass terms stage (shown s f)).stage in
+          let left : Sight = sight_on onward terms stage (shown s f) in
           let more : Sight = hears (side_of stage) (shown s f) piece in
-          let done = works place.side place.bytes terms readers onward goes stage (shown s f) place.open_client (sym (passed_finds s f) ∙ ap (λ l. retimed_look see l) is) in
-          let to : retimed_stage see there.stage ≡ first = passed_stage see onward goes s.stage (sight_over s f) in
-          let may : MayStand there f = may_passed onward goes s f place.may in
-          let comes = moment_led see onward goes s.stage (sight_over s f) e.moment (now_over s.since f) place.comes in
+          let done = works terms readers place.side place.bytes onward goes stage (shown s f) place.open_client (waits_work place.side s f place.waits) (sym (passed_finds s f) ∙ ap (λ l. retimed_look see l) is) in
+          let to : retimed_stage see there.stage ≡ first = passed_stage see onward goes terms s.stage (sight_over s f) in
+          let may : MayStand terms there f = may_passed terms onward goes s f place.may in
+          let comes = moment_led see onward goes terms s.stage (sight_over s f) e.moment (now_over s.since f) place.comes in
           let seen : shown there prefix ≡ hears (side_of first) left piece =
-          shown_more see there f e may place.open_client
+          shown_more see terms there f e may place.open_client
           ∙ (ap (λ x. sight_with (side_of there.stage) (shown there f) x (moment_at see there.stage e.moment)) place.is_piece
           ∙ (ap (λ n. sight_with (side_of there.stage) (shown there f) piece n) comes ∙ heard_behind last s f t g place)) in
-          let again : retimed_turn see (pass there.stage (sight_over there prefix)) ≡ pass first (hears (side_of first) left piece) =
-          pass_shown see there.stage (sight_over there prefix) ∙ both pass (retimed_stage see there.stage) first (shown there prefix) (hears (side_of first) left piece) to seen in
-          let whole : pass stage more ≡ retimed_turn see (pass t.stage (sight_over t g)) =
-          both pass stage (retimed_stage see t.stage) more (shown t g) place.stages (heard_so last s f t g place) ∙ sym (pass_shown see t.stage (sight_over t g)) in
+          let again : retimed_turn see (pass terms there.stage (sight_over there prefix)) ≡ pass terms first (hears (side_of first) left piece) =
+          pass_shown see terms there.stage (sight_over there prefix) ∙ both (pass terms) (retimed_stage see there.stage) first (shown there prefix) (hears (side_of first) left piece) to seen in
+          let whole : pass terms stage more ≡ retimed_turn see (pass terms t.stage (sight_over t g)) =
+          both (pass terms) stage (retimed_stage see t.stage) more (shown t g) place.stages (heard_so last s f t g place) ∙ sym (pass_shown see terms t.stage (sight_over t g)) in
           record {
-            owed = map-append (retimed see) (pass s.stage (sight_over s f)).owed (pass there.stage (sight_over there prefix)).owed
-                ∙ (ap (λ x. x.owed ++ map (retimed see) (pass there.stage (sight_over there prefix)).owed) (pass_shown see s.stage (sight_over s f))
-                ∙ (ap (λ x. (pass stage (shown s f)).owed ++ x.owed) again
+            owed = map-append (retimed see) (pass terms s.stage (sight_over s f)).owed (pass terms there.stage (sight_over there prefix)).owed
+                ∙ (ap (λ x. x.owed ++ map (retimed see) (pass terms there.stage (sight_over there prefix)).owed) (pass_shown see terms s.stage (sight_over s f))
+                ∙ (ap (λ x. (pass terms stage (shown s f)).owed ++ x.owed) again
                 ∙ (done.owes ∙ ap (λ x. x.owed) whole)));
             stage = record {
-              stages = retimed_on see onward goes (pass there.stage (sight_over there prefix)).stage
+              stages = retimed_on see onward goes (pass terms there.stage (sight_over there prefix)).stage
                   ∙ (ap (λ x. onward x.stage) again
-                  ∙ (done.leads ∙ (ap (λ x. onward x.stage) whole ∙ sym (retimed_on see onward goes (pass t.stage (sight_over t g)).stage))));
-              sights = passed_shown see onward goes there prefix
-                  ∙ (both (sight_on onward) (retimed_stage see there.stage) first (shown there prefix) (hears (side_of first) left piece) to seen
+                  ∙ (done.leads ∙ (ap (λ x. onward x.stage) whole ∙ sym (retimed_on see onward goes (pass terms t.stage (sight_over t g)).stage))));
+              sights = passed_shown see onward goes terms there prefix
+                  ∙ (both (sight_on onward terms) (retimed_stage see there.stage) first (shown there prefix) (hears (side_of first) left piece) to seen
                   ∙ (done.leaves
-                  ∙ (both (sight_on onward) stage (retimed_stage see t.stage) more (shown t g) place.stages (heard_so last s f t g place) ∙ sym (passed_shown see onward goes t g))));
-              may = may_passed onward goes there prefix (may_more there f e may);
-              other_may = may_passed onward goes t g place.other_may;
+                  ∙ (both (sight_on onward terms) stage (retimed_stage see t.stage) more (shown t g) place.stages (heard_so last s f t g place) ∙ sym (passed_shown see onward goes terms t g))));
+              may = may_passed terms onward goes there prefix (may_more terms there f e may);
+              other_may = may_passed terms onward goes t g place.other_may;
             };
           }
 
       -- A piece that waits may be taken early.
-      pub unhurried : Unhurried chain (AlikeSeen see) (PlacesAlike see) (MayWaitFor see event) event (HeardEarly see onward terms event)
+      pub unhurried : Unhurried chain (AlikeSeen see) (PlacesAlike see terms) (MayWaitFor see event) event (HeardEarly see onward terms event)
       unhurried = record {
         passes = λ last s f t g place is. early_passes last s f t g place is;
         owes = λ last s f t g place settled other is. early_owes last s f t g place is;

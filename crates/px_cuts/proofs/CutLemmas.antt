@@ -19,7 +19,7 @@ use Rattle.px_cuts.proofs.AlikeLaws.{alike, unhurried}
 use Rattle.px_cuts.specs.Alike.{HeardEarly, IsCompared, is_like, PlacesAlike}
 use Rattle.px_chain.specs.Chain.{http_chain, IsOnward}
 use Rattle.px_cuts.proofs.PieceLemmas.{all_may_come, any_may_come, cut_early, equal, next_early, swap_early}
-use Rattle.px_cuts.specs.Cuts.{AlikeSeen, as_it_is, as_piece, EqualButForMoments, IsNoEarlier, MayBeHeard, MayStand, MayWaitFor, no_moment, piece_at, retimed}
+use Rattle.px_cuts.specs.Cuts.{AlikeSeen, EqualButForMoments, GoesUpApart, IsNoEarlier, MayBeHeard, MayStand, MayWaitFor, NoneGoesUp, as_it_is, as_piece, no_moment, piece_at, retimed}
 use Rattle.px_chain.proofs.ChainLaws.{settles}
 use Rattle.px_chain.specs.Sights.{Standing}
 use Rattle.px_chain.specs.Stages.{Stage}
@@ -40,28 +40,28 @@ module _ (see : ℕ → ℕ) (onward : Stage → Stage) (goes : IsOnward onward)
   compared = record { alike = alike see onward goes terms; unhurried = λ event. unhurried see onward goes terms readers event }
 
   -- starts that show the same owe the same
-  pub starts : (start other : Standing) (events : List (Stamped Event)) (replies : List (Stamped Reply)) → PlacesAlike see start [] other [] →
+  pub starts : (start other : Standing) (events : List (Stamped Event)) (replies : List (Stamped Reply)) → PlacesAlike see terms start [] other [] →
       AlikeSeen see (due (http_chain onward terms) start events replies) (due (http_chain onward terms) other events replies)
   starts start other events replies place =
-      same_owed (http_chain onward terms) (AlikeSeen see) (is_like see) (PlacesAlike see) (alike see onward goes terms) (settles onward goes terms) replies never [] [] start [] other [] events refl place
+      same_owed (http_chain onward terms) (AlikeSeen see) (is_like see) (PlacesAlike see terms) (alike see onward goes terms) (settles onward goes terms) replies never [] [] start [] other [] events refl place
 
   -- where a walk stops, its stage may stand
-  pub stands : (start : Standing) (before : List (Stamped Event)) (replies : List (Stamped Reply)) → MayStand start [] →
-      MayStand (walk_from (http_chain onward terms) start before replies).stage (walk_from (http_chain onward terms) start before replies).prefix
+  pub stands : (start : Standing) (before : List (Stamped Event)) (replies : List (Stamped Reply)) → MayStand terms start [] →
+      MayStand terms (walk_from (http_chain onward terms) start before replies).stage (walk_from (http_chain onward terms) start before replies).prefix
   stands start before replies may =
-      (same_stops (http_chain onward terms) (AlikeSeen see) (is_like see) (PlacesAlike see) (alike see onward goes terms) (settles onward goes terms)
+      (same_stops (http_chain onward terms) (AlikeSeen see) (is_like see) (PlacesAlike see terms) (alike see onward goes terms) (settles onward goes terms)
       replies never [] [] start [] start [] before refl (record { stages = refl; sights = refl; may = may; other_may = may })).place.may
 
   pub cut : (start : Standing) (before after : List (Stamped Event)) (replies : List (Stamped Reply)) (stamp first second : Stamp) (side : Side) (bytes more : List ℕ) →
       let w = walk_from (http_chain onward terms) start before replies in
-      MayStand start [] → MayCome (MayWaitFor see (piece_at second side more)) w.unused →
+      MayStand terms start [] → MayCome (MayWaitFor see (piece_at second side more)) w.unused →
       see (later w.last first).moment ≡ see (later w.last stamp).moment → see (later w.last second).moment ≡ see (later w.last first).moment →
       AlikeSeen see (due (http_chain onward terms) start (before ++ piece_at first side bytes ∷ piece_at second side more ∷ after) replies)
       (due (http_chain onward terms) start (before ++ piece_at stamp side (bytes ++ more) ∷ after) replies)
   cut start before after replies stamp first second side bytes more may waits whole half =
       let w = walk_from (http_chain onward terms) start before replies in
       let second_half : Stamped Event = piece_at second side more in
-      two_for_one (http_chain onward terms) (AlikeSeen see) (is_like see) (settles onward goes terms) (PlacesAlike see) (alike see onward goes terms)
+      two_for_one (http_chain onward terms) (AlikeSeen see) (is_like see) (settles onward goes terms) (PlacesAlike see terms) (alike see onward goes terms)
       (MayWaitFor see second_half) second_half (HeardEarly see onward terms second_half) (unhurried see onward goes terms readers second_half)
       start before after (piece_at first side bytes) (piece_at stamp side (bytes ++ more)) replies
       (λ is. record {
@@ -72,28 +72,28 @@ module _ (see : ℕ → ℕ) (onward : Stage → Stage) (goes : IsOnward onward)
 
   pub swap : (start : Standing) (before after : List (Stamped Event)) (replies : List (Stamped Reply)) (first second : Stamp) (side other : Side) (bytes more : List ℕ) →
       let w = walk_from (http_chain onward terms) start before replies in
-      MayStand start [] → is_same_side side other ≡ false → MayBeHeard side w.stage.stage → MayBeHeard other w.stage.stage →
+      GoesUpApart terms w.stage.stage → MayStand terms start [] → is_same_side side other ≡ false → NoneGoesUp w.stage.stage → MayBeHeard side w.stage.stage → MayBeHeard other w.stage.stage →
       MayCome (MayWaitFor see (piece_at first side bytes)) w.unused → MayCome (MayWaitFor see (piece_at second other more)) w.unused →
       see (later w.last second).moment ≡ see (later w.last first).moment →
       AlikeSeen see (due (http_chain onward terms) start (before ++ piece_at first side bytes ∷ piece_at second other more ∷ after) replies)
       (due (http_chain onward terms) start (before ++ piece_at second other more ∷ piece_at first side bytes ∷ after) replies)
-  swap start before after replies first second side other bytes more may two heard heard' waits waits' half =
+  swap start before after replies first second side other bytes more goes_apart may two none heard heard' waits waits' half =
       let w = walk_from (http_chain onward terms) start before replies in
       let one : Stamped Event = piece_at first side bytes in
       let next : Stamped Event = piece_at second other more in
       let standing = stands start before replies may in
-      swapped (http_chain onward terms) (AlikeSeen see) (is_like see) (settles onward goes terms) (PlacesAlike see) (alike see onward goes terms)
+      swapped (http_chain onward terms) (AlikeSeen see) (is_like see) (settles onward goes terms) (PlacesAlike see terms) (alike see onward goes terms)
       (λ a b c same alike. same ∙ sym alike)
       (MayWaitFor see next) (MayWaitFor see one) next one (HeardEarly see onward terms next) (HeardEarly see onward terms one)
       (unhurried see onward goes terms readers next) (unhurried see onward goes terms readers one)
       start before after replies w.stage _
       (λ is. (
-        record { place = next_early see onward goes terms w first second side other bytes more standing is heard' half; replies = waits' },
-        record { place = swap_early see onward goes terms w first second side other bytes more standing is two heard half; replies = waits },
+        record { place = next_early see onward goes terms w first second side other bytes more goes_apart standing is none heard' half; replies = waits' },
+        record { place = swap_early see onward goes terms w first second side other bytes more goes_apart standing is two none heard half; replies = waits },
       ))
 
 -- a piece in two, at any moments
-pub halves_owe : (onward : Stage → Stage) (goes : IsOnward onward) (terms : Terms) (start : Standing) → MayStand start [] → (before after : List (Stamped Event)) (replies : List (Stamped Reply)) (side : Side)
+pub halves_owe : (onward : Stage → Stage) (goes : IsOnward onward) (terms : Terms) (start : Standing) → MayStand terms start [] → (before after : List (Stamped Event)) (replies : List (Stamped Reply)) (side : Side)
     (stamp first second : Stamp) (bytes more : List ℕ) →
     EqualButForMoments (due (http_chain onward terms) start (before ++ piece_at first side bytes ∷ piece_at second side more ∷ after) replies)
     (due (http_chain onward terms) start (before ++ piece_at stamp side (bytes ++ more) ∷ after) replies)
@@ -102,7 +102,7 @@ halves_owe onward goes terms start may before after replies side stamp first sec
 
 -- ---- any number of pieces
 
-module _ (onward : Stage → Stage) (goes : IsOnward onward) (terms : Terms) (start : Standing) (may : MayStand start []) (before after : List (Stamped Event)) (replies : List (Stamped Reply)) (side : Side) where
+module _ (onward : Stage → Stage) (goes : IsOnward onward) (terms : Terms) (start : Standing) (may : MayStand terms start []) (before after : List (Stamped Event)) (replies : List (Stamped Reply)) (side : Side) where
   -- what is due with these events behind those
   abbrev due_with : List (Stamped Event) → List Command
   due_with events = due (http_chain onward terms) start (before ++ events) replies

@@ -1,8 +1,13 @@
 pub mod ComingLaws
 pub mod ShownLaws
 pub mod PlaceLaws
+pub mod BesideLaws
 pub mod StayLaws
+pub mod PassLaws
+pub mod KeptLaws
 pub mod WorkLaws
+pub mod NextLaws
+pub mod QuietLaws
 pub mod AlikeLaws
 pub mod PieceLemmas
 pub mod CutLemmas

@@ -16,7 +16,7 @@ use Rattle.px_cuts.specs.Alike.{is_like, PlacesAlike}
 use Rattle.px_cuts.proofs.AlikeLaws.{more_alike, owes_alike, pass_alike, turn_alike, owed_alike}
 use Rattle.px_chain.specs.Chain.{http_chain, IsOnward, pass}
 use Rattle.px_chain.specs.Sights.{Standing, sight_over}
-use Rattle.px_cuts.specs.Cuts.{EqualButForMoments, joined_onto, joined_pieces, MayStand, no_moment, piece_at, retimed, SameStreams, values_of}
+use Rattle.px_cuts.specs.Cuts.{EqualButForMoments, MayStand, SameStreams, joined_onto, joined_pieces, no_moment, piece_at, retimed, values_of}
 use Rattle.px_chain.specs.Stages.{Stage}
 use Rattle.px_cuts.specs.Shown.{behind_over, look_over, passed_over, so_far_over}
 use Rattle.px_cuts.proofs.CutLemmas.{halves_owe}
@@ -60,7 +60,7 @@ module _ (onward : Stage → Stage) (goes : IsOnward onward) (terms : Terms) whe
   chain = http_chain onward terms
 
   abbrev Same : Standing → List (Timed Event) → Standing → List (Timed Event) → Type 0
-  Same = PlacesAlike no_moment
+  Same = PlacesAlike no_moment terms
 
   record ReachedAlike (here there : Reached Standing Event Command) : Type 0 where
     pub before : EqualButForMoments here.before there.before
@@ -69,7 +69,7 @@ module _ (onward : Stage → Stage) (goes : IsOnward onward) (terms : Terms) whe
 
   -- the search where it stands
   abbrev here_at : List Command → Standing → List (Timed Event) → List (Stamped Event) → Reached Standing Event Command
-  here_at before s f es = record { before = before ++ (pass s.stage (sight_over s f)).owed; stage = passed_over onward s f; prefix = f; rest = es }
+  here_at before s f es = record { before = before ++ (pass terms s.stage (sight_over s f)).owed; stage = passed_over onward terms s f; prefix = f; rest = es }
 
   here_alike : (before other : List Command) (s : Standing) (f : List (Timed Event)) (t : Standing) (g : List (Timed Event)) (es xs : List (Stamped Event)) →
       EqualButForMoments before other → Same s f t g → values_of es ≡ values_of xs → ReachedAlike (here_at before s f es) (here_at other t g xs)
@@ -102,23 +102,23 @@ module _ (onward : Stage → Stage) (goes : IsOnward onward) (terms : Terms) whe
       let one : e.value ≡ x.value = cc in
       let others : values_of es ≡ values_of xs = cc in
       let at = here_alike before other s f t g (e ∷ es) (x ∷ xs) befores place same in
-      let on = passed_over onward s f in
-      let on' = passed_over onward t g in
+      let on = passed_over onward terms s f in
+      let on' = passed_over onward terms t g in
       reach_by_alike (look_over terms on f) (look_over terms on' g) _ _ _ _
       (both_find (look_over terms on f) (look_over terms on' g) (owes_alike no_moment onward goes terms on f on' g at.place).look)
-      (λ is. reach_alike last last' (before ++ (pass s.stage (sight_over s f)).owed) (other ++ (pass t.stage (sight_over t g)).owed) on (f ++ worked_off last e ∷ []) on' (g ++ worked_off last' x ∷ []) es xs at.before
+      (λ is. reach_alike last last' (before ++ (pass terms s.stage (sight_over s f)).owed) (other ++ (pass terms t.stage (sight_over t g)).owed) on (f ++ worked_off last e ∷ []) on' (g ++ worked_off last' x ∷ []) es xs at.before
       (more_alike no_moment onward goes terms on f on' g at.place is (worked_off last e) (worked_off last' x) one refl) others)
       at
 
   -- all that is owed where a search stopped
   abbrev owed_there : Reached Standing Event Command → List Command
-  owed_there here = here.before ++ (so_far_over here.stage here.prefix ++ found_with (behind_over here.stage here.prefix) (look_over terms here.stage here.prefix))
+  owed_there here = here.before ++ (so_far_over terms here.stage here.prefix ++ found_with (behind_over here.stage here.prefix) (look_over terms here.stage here.prefix))
 
   owed_alike_there : (here there : Reached Standing Event Command) → ReachedAlike here there → EqualButForMoments (owed_there here) (owed_there there)
   owed_alike_there here there at =
       let owes = owes_alike no_moment onward goes terms here.stage here.prefix there.stage there.prefix at.place in
       joins here.before there.before _ _ at.before
-      (joins (so_far_over here.stage here.prefix) (so_far_over there.stage there.prefix) _ _ owes.so_far
+      (joins (so_far_over terms here.stage here.prefix) (so_far_over terms there.stage there.prefix) _ _ owes.so_far
       (found_owed (behind_over here.stage here.prefix) (behind_over there.stage there.prefix) (look_over terms here.stage here.prefix) (look_over terms there.stage there.prefix) owes.behind owes.look))
 
   walk_by_alike : (l m : Look Command) (on other : Command → Stop Standing Event Reply Command) (stop stop' : Stop Standing Event Reply Command) → BothFind l m →
@@ -156,14 +156,14 @@ module _ (onward : Stage → Stage) (goes : IsOnward onward) (terms : Terms) whe
       (λ ask ask' is alike.
       let turned = turn_alike no_moment onward goes terms here.stage here.prefix there.stage there.prefix at.place (at_its_step r) (at_its_step q) (record { value = one; moment = refl }) in
       walk_alike rs qs r.stamp q.stamp _ _ (chain.turn here.stage here.prefix (at_its_step r)).stage here.prefix (chain.turn there.stage there.prefix (at_its_step q)).stage there.prefix here.rest there.rest others
-      (joins here.before there.before _ _ at.before (joins (so_far_over here.stage here.prefix) (so_far_over there.stage there.prefix) _ _ owes.so_far
+      (joins here.before there.before _ _ at.before (joins (so_far_over terms here.stage here.prefix) (so_far_over terms there.stage there.prefix) _ _ owes.so_far
       (joins (ask ∷ []) (ask' ∷ []) _ _ alike (joins (behind_over here.stage here.prefix) (behind_over there.stage there.prefix) _ _ owes.behind turned.owed))))
       turned.stage at.rest)
       (owed_alike_there here there at)
 
   -- ---- pieces joined
 
-  module _ (start : Standing) (may : MayStand start []) (replies : List (Stamped Reply)) where
+  module _ (start : Standing) (may : MayStand terms start []) (replies : List (Stamped Reply)) where
     -- events that owe the same, and are these but for their steps
     pub record Joins (before these : List (Stamped Event)) (values : List Event) : Type 0 where
       pub joined : List (Stamped Event)
@@ -222,7 +222,7 @@ module _ (onward : Stage → Stage) (goes : IsOnward onward) (terms : Terms) whe
               ∙ whole.owes));
         }
 
-  pub streams_owe : (start : Standing) → MayStand start [] → (these those : List (Stamped Event)) (replies answers : List (Stamped Reply)) →
+  pub streams_owe : (start : Standing) → MayStand terms start [] → (these those : List (Stamped Event)) (replies answers : List (Stamped Reply)) →
       SameStreams these those → values_of replies ≡ values_of answers →
       EqualButForMoments (due chain start these replies) (due chain start those answers)
   streams_owe start may these those replies answers same given =

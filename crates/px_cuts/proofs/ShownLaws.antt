@@ -1,6 +1,6 @@
 -- All that a stage finds, owes, passes to and turns to, its moments seen so, is that of the stage and the sight seen so.
-use Rattle.std.proofs.Common.{◌≡◌, ℕ, Bool, true, false, List, [], ◌∷◌, ◌++◌, map, Option, Some, None, refl, ap, ◌∙◌}
-use Rattle.std.specs.Prelude.{◌==◌, not, if◌then◌else◌}
+use Rattle.std.proofs.Common.{◌≡◌, ℕ, Bool, true, false, List, [], ◌∷◌, ◌++◌, map, Option, Some, None, refl, sym, ap, ◌∙◌}
+use Rattle.std.specs.Prelude.{◌==◌, ◌&&◌, not, if◌then◌else◌}
 use Rattle.std.proofs.lemmas.List.{map-append}
 use Rattle.px_message.specs.declared.fault.Fault.{Fault}
 use Rattle.px_message.specs.declared.fault.Fault.TheVariants.{BadResponse}
@@ -26,7 +26,7 @@ use Rattle.px_exchange.specs.declared.taken.Taken.{Taken}
 use Rattle.px_exchange.specs.declared.taken.Taken.TheVariants.{GoesOn, Responds, Kills}
 use Rattle.px_exchange.specs.declared.place.Place.{Place}
 use Rattle.px_exchange.specs.declared.terms.Terms.{Terms}
-use Rattle.px_chain.specs.Chain.{behind, behind_flow, dial_leads, finish, finish_by, given_at, goes_on_by, killed, look, look_coming, parked_for, pass, pass_body, pass_came, pass_kept, so_far, turn, turn_answer, turn_answer_head, turn_body, turn_given_head, turn_head, turn_judged, turn_read_whole, turn_response, turn_returned, turn_taken_answer, turn_taken_body, turn_taken_given, turn_taken_head, turn_taken_returned, turn_taken_whole, turn_whole_answer}
+use Rattle.px_chain.specs.Chain.{bad_or, begin_up, begins_going, behind, behind_flow, come_down, dial_leads, dial_owes_by, end_by, end_up, finish, finish_by, given_at, goes_on_by, goes_up_by, going_at, is_unheard, gone_by, killed, look, look_coming, look_up, parked_for, pass, pass_came, pass_given, pass_going, pass_kept, past_gone, sight_begun, sight_ended, so_far, turn, turn_answer, turn_answer_head, turn_body, turn_given_head, turn_head, turn_judged, turn_read_whole, turn_response, turn_returned, turn_taken_answer, turn_taken_body, turn_taken_given, turn_taken_head, turn_taken_returned, turn_taken_whole, turn_whole_answer}
 use Rattle.px_exchange.specs.Flows.{ask_of, response_of, with_answer, with_body, with_end, with_returned}
 use Rattle.px_exchange.specs.Dials.{dial_owes}
 use Rattle.px_exchange.specs.Finds.{is_relayed, look_answer, look_answer_head, look_body, look_head, look_judged, look_returned, or_leaves}
@@ -35,9 +35,11 @@ use Rattle.px_exchange.specs.Endings.{closed_message, connection_goes_on, ends_b
 use Rattle.px_exchange.specs.Replies.{taken_at_request_body, taken_at_request_head, taken_at_response_head}
 use Rattle.px_exchange.specs.Requests.{expects, flow_of, is_head, is_http11, judged}
 use Rattle.px_cuts.specs.Shown.{retimed_sight, retimed_stage, shown_sight}
-use Rattle.px_chain.specs.Stages.{At, Parked, Stage, busy, coming_down, connection, given_body, given_head, idle, next, over, request_body, response_body, response_head, unparked, upgraded, Sent}
+use Rattle.px_chain.specs.Stages.{At, Doing, Parked, Stage, all_sent, busy, coming_down, connection, given_body, given_head, going_up, idle, next, over, request_body, response_body, response_head, unparked, upgraded, Sent}
 use Rattle.px_chain.specs.Sights.{Sight, answers_in, request_in, server_in, server_parked}
 use Rattle.px_exchange.specs.Texts.{interim_command}
+use Rattle.px_chain.proofs.ChainLaws.{behind_turn}
+use Rattle.px_chain.specs.Going.{allowed_up_by, goes_up, is_sent, sending_on, sends_going, sends_up, whole_in}
 use Rattle.px_chain.specs.Coming.{Came, allowed_by, came_in, coming_text, finished_coming, goes_on_behind, streaming, streams_in}
 
 -- a look, a turn and a reply, their moments seen so
@@ -161,6 +163,20 @@ module _ (see : ℕ → ℕ) where
   or_leaves_seen closed leaves (Asks ask) = refl
   or_leaves_seen closed leaves (Ends owed) = refl
 
+  -- beside a request that goes up
+  bad_or_seen : (item : Item ReadRequest) (ends other : Fault → List Command) (l m : Look Command) → ((fault : Fault) → map (retimed see) (ends fault) ≡ other fault) →
+      retimed_look see l ≡ m → retimed_look see (bad_or item ends l) ≡ bad_or item other m
+  bad_or_seen missing ends other l m each alike = alike
+  bad_or_seen (part head body) ends other l m each alike = alike
+  bad_or_seen (complete head body trailers size) ends other l m each alike = alike
+  bad_or_seen (bad_head fault) ends other l m each alike = alike
+  bad_or_seen (bad_body fault head body) ends other l m each alike = ap (λ l. Ends l) (each fault)
+
+  up_seen : (how : Sent) (seen : Sight) (ends other : Fault → List Command) (l m : Look Command) → ((fault : Fault) → map (retimed see) (ends fault) ≡ other fault) →
+      retimed_look see l ≡ m → retimed_look see (look_up how seen ends l) ≡ look_up how (retimed_sight see seen) other m
+  up_seen all_sent seen ends other l m each alike = alike
+  up_seen going_up seen ends other l m each alike = bad_or_seen (request_in seen) ends other l m each alike
+
   looked : (closed : Bool) (leaves other : List Command) (l m : Look Command) → map (retimed see) leaves ≡ other → retimed_look see l ≡ m →
       retimed_look see (or_leaves closed leaves l) ≡ or_leaves closed other m
   looked closed leaves other l m same alike = or_leaves_seen closed leaves l ∙ rw (same, alike) refl
@@ -172,23 +188,26 @@ module _ (see : ℕ → ℕ) where
       looked seen.closed _ _ _ _ (shut_server_seen used ∙ ap (λ u. shut_server u) (parked_seen at.parked seen))
       (look_head_seen terms at.flow (request_in seen) seen.now used seen.closed
       ∙ ap (λ u. look_head terms at.flow (request_in seen) (see seen.now) u seen.closed) (parked_seen at.parked seen))
-  look_shown terms (busy at flow (request_body given)) seen =
+  look_shown terms (busy at flow (request_body given most)) seen =
       let used : Used = server_parked at.parked seen in
       looked seen.closed _ _ _ _
       (ends_early_seen flow closed_message seen.now used true
       ∙ ap (λ u. ends_early (retimed_flow see flow) closed_message (see seen.now) u true) (parked_seen at.parked seen))
       (look_body_seen flow (request_in seen) seen.now used seen.closed
       ∙ ap (λ u. look_body (retimed_flow see flow) (request_in seen) (see seen.now) u seen.closed) (parked_seen at.parked seen))
-  look_shown terms (busy at flow connection) seen = refl
+  look_shown terms (busy at flow (connection how)) seen = refl
   look_shown terms (busy at flow (response_head side how)) seen =
       looked seen.closed _ _ _ _ (ends_early_seen flow closed_message seen.now (server_in side seen) true)
-      (look_answer_seen flow (answers_in flow.request seen).final seen.now (server_in side seen) seen.closed)
+      (up_seen how seen _ _ _ _ (λ fault. ends_by_fault_seen flow fault seen.now (server_in side seen) seen.closed)
+      (look_answer_seen flow (answers_in flow.request seen).final seen.now (server_in side seen) seen.closed))
   look_shown terms (busy at flow (response_body side how most)) seen =
       looked seen.closed _ _ _ _ (ends_early_seen (without_response flow) closed_message seen.now (server_in side seen) true)
-      (look_returned_seen flow (answers_in flow.request seen).final seen.now (server_in side seen) seen.closed)
+      (up_seen how seen _ _ _ _ (λ fault. ends_by_fault_seen flow fault seen.now (server_in side seen) seen.closed)
+      (look_returned_seen flow (answers_in flow.request seen).final seen.now (server_in side seen) seen.closed))
   look_shown terms (busy at flow (coming_down side how)) seen =
       looked seen.closed _ _ _ _ (ends_early_seen flow closed_message seen.now (server_in side seen) true)
-      (look_coming_seen flow (answers_in flow.request seen).final seen.now (server_in side seen) seen.closed)
+      (up_seen how seen _ _ _ _ (λ fault. ends_early_seen flow (fault_message fault) seen.now (server_in side seen) seen.closed)
+      (look_coming_seen flow (answers_in flow.request seen).final seen.now (server_in side seen) seen.closed))
   look_shown terms (busy at flow (upgraded side)) seen = refl
   look_shown terms (busy at flow given_head) seen = refl
   look_shown terms (busy at flow given_body) seen = refl
@@ -206,25 +225,28 @@ module _ (see : ℕ → ℕ) where
   interim_by true heads = interim_seen heads
   interim_by false heads = refl
 
-  pub so_far_shown : (stage : Stage) (seen : Sight) → map (retimed see) (so_far stage seen) ≡ so_far (retimed_stage see stage) (shown_sight see stage seen)
-  so_far_shown (idle at) seen = refl
-  so_far_shown (busy at flow (request_body given)) seen = refl
-  so_far_shown (busy at flow connection) seen = refl
-  so_far_shown (busy at flow (response_head side how)) seen = interim_by (is_http11 flow.request.version) (answers_in flow.request seen).interim
-  so_far_shown (busy at flow (response_body side how most)) seen = refl
-  so_far_shown (busy at flow (coming_down side how)) seen = refl
-  so_far_shown (busy at flow (upgraded side)) seen = refl
-  so_far_shown (busy at flow given_head) seen = refl
-  so_far_shown (busy at flow given_body) seen = refl
-  so_far_shown (next at) seen = refl
-  so_far_shown over seen = refl
+  pub so_far_shown : (terms : Terms) (stage : Stage) (seen : Sight) → map (retimed see) (so_far terms stage seen) ≡ so_far terms (retimed_stage see stage) (shown_sight see stage seen)
+  so_far_shown terms (idle at) seen = refl
+  so_far_shown terms (busy at flow (request_body given most)) seen = refl
+  so_far_shown terms (busy at flow (connection how)) seen = refl
+  so_far_shown terms (busy at flow (response_head side all_sent)) seen = interim_by (is_http11 flow.request.version) (answers_in flow.request seen).interim
+  so_far_shown terms (busy at flow (response_head side going_up)) seen = ap (λ l. sends_going terms.place flow side seen ++ l) (interim_by (is_http11 flow.request.version) (answers_in flow.request seen).interim)
+  so_far_shown terms (busy at flow (response_body side all_sent most)) seen = refl
+  so_far_shown terms (busy at flow (response_body side going_up most)) seen = refl
+  so_far_shown terms (busy at flow (coming_down side all_sent)) seen = refl
+  so_far_shown terms (busy at flow (coming_down side going_up)) seen = refl
+  so_far_shown terms (busy at flow (upgraded side)) seen = refl
+  so_far_shown terms (busy at flow given_head) seen = refl
+  so_far_shown terms (busy at flow given_body) seen = refl
+  so_far_shown terms (next at) seen = refl
+  so_far_shown terms over seen = refl
 
   -- ---- what is owed behind an ask
 
   pub behind_shown : (stage : Stage) (seen : Sight) → map (retimed see) (behind stage seen) ≡ behind (retimed_stage see stage) (shown_sight see stage seen)
   behind_shown (idle at) seen = refl
-  behind_shown (busy at flow (request_body given)) seen = refl
-  behind_shown (busy at flow connection) seen = shut_server_seen (server_parked at.parked seen) ∙ ap (λ u. shut_server u) (parked_seen at.parked seen)
+  behind_shown (busy at flow (request_body given most)) seen = refl
+  behind_shown (busy at flow (connection how)) seen = shut_server_seen (server_parked at.parked seen) ∙ ap (λ u. shut_server u) (parked_seen at.parked seen)
   behind_shown (busy at flow (response_head side how)) seen = refl
   behind_shown (busy at flow (response_body side how most)) seen = refl
   behind_shown (busy at flow (coming_down side how)) seen = refl
@@ -248,14 +270,14 @@ module _ (see : ℕ → ℕ) where
       killed_seen flow moment (server_parked at.parked seen) seen.closed
       ∙ ap (λ u. killed (retimed_flow see flow) (see moment) u seen.closed) (parked_seen at.parked seen)
 
-  taken_head_seen : (at : At) (flow : Flow) (expected : Bool) (taken : Taken Request) (moment : ℕ) (seen : Sight) →
-      retimed_turn see (turn_taken_head at flow expected taken moment seen)
-      ≡ turn_taken_head at (retimed_flow see flow) expected taken (see moment) (retimed_sight see seen)
-  taken_head_seen at flow true (GoesOn request) moment seen = refl
-  taken_head_seen at flow false (GoesOn request) moment seen = refl
-  taken_head_seen at flow true (Responds response) moment seen = refl
-  taken_head_seen at flow false (Responds response) moment seen = refl
-  taken_head_seen at flow expected Kills moment seen = killed_parked at flow moment seen
+  taken_head_seen : (at : At) (flow : Flow) (expected : Bool) (most : Option ℕ) (taken : Taken Request) (moment : ℕ) (seen : Sight) →
+      retimed_turn see (turn_taken_head at flow expected most taken moment seen)
+      ≡ turn_taken_head at (retimed_flow see flow) expected most taken (see moment) (retimed_sight see seen)
+  taken_head_seen at flow true most (GoesOn request) moment seen = refl
+  taken_head_seen at flow false most (GoesOn request) moment seen = refl
+  taken_head_seen at flow true most (Responds response) moment seen = refl
+  taken_head_seen at flow false most (Responds response) moment seen = refl
+  taken_head_seen at flow expected most Kills moment seen = killed_parked at flow moment seen
 
   judged_turn_seen : (terms : Terms) (at : At) (head : ReadRequest) (j : Judged) (seen : Sight) (answer : Timed Reply) →
       retimed_turn see (turn_judged terms at head j seen answer)
@@ -263,7 +285,7 @@ module _ (see : ℕ → ℕ) where
   judged_turn_seen terms at head (Refused fault) seen answer = refl
   judged_turn_seen terms at head (Connects address) seen answer = refl
   judged_turn_seen terms at head (Accepted request) seen answer =
-      taken_head_seen at (flow_of terms at.flow request seen.now) (expects head)
+      taken_head_seen at (flow_of terms at.flow request seen.now) (expects head) (allowed_up_by terms.streams answer.value)
       (taken_at_request_head request answer.value) answer.moment seen
 
   head_turn_seen : (terms : Terms) (at : At) (item : Item ReadRequest) (seen : Sight) (answer : Timed Reply) →
@@ -305,36 +327,46 @@ module _ (see : ℕ → ℕ) where
   dial_owes_seen to flow server reply.Kill moment closed = refl
   dial_owes_seen to flow server reply.Discard moment closed = refl
 
-  dial_leads_seen : (to : Place) (at : At) (flow : Flow) (value : Reply) → retimed_stage see (dial_leads to at flow value) ≡ dial_leads to at (retimed_flow see flow) value
-  dial_leads_seen to at flow reply.Dialled = refl
-  dial_leads_seen to at flow (reply.Refused fault) = refl
-  dial_leads_seen to at flow (reply.Go given stream) = refl
-  dial_leads_seen to at flow (reply.Respond response) = refl
-  dial_leads_seen to at flow reply.Kill = refl
-  dial_leads_seen to at flow reply.Discard = refl
+  dial_owed_seen : (how : Sent) (to : Place) (flow : Flow) (server : ℕ) (value : Reply) (moment : ℕ) (closed : Bool) →
+      map (retimed see) (dial_owes_by how to flow server value moment closed) ≡ dial_owes_by how to (retimed_flow see flow) server value (see moment) closed
+  dial_owed_seen all_sent to flow server value moment closed = dial_owes_seen to flow server value moment closed
+  dial_owed_seen going_up to flow server reply.Dialled moment closed = refl
+  dial_owed_seen going_up to flow server (reply.Refused fault) moment closed = ends_by_fault_seen flow fault moment NoServer closed
+  dial_owed_seen going_up to flow server (reply.Go given stream) moment closed = refl
+  dial_owed_seen going_up to flow server (reply.Respond response) moment closed = refl
+  dial_owed_seen going_up to flow server reply.Kill moment closed = refl
+  dial_owed_seen going_up to flow server reply.Discard moment closed = refl
 
-  taken_answer_seen : (at : At) (flow : Flow) (side : ℕ) (most : Option ℕ) (taken : Taken Response) (moment : ℕ) (used : Used) (closed : Bool) →
-      retimed_turn see (turn_taken_answer at flow side most taken moment used closed)
-      ≡ turn_taken_answer at (retimed_flow see flow) side most taken (see moment) used closed
-  taken_answer_seen at flow side most (GoesOn response) moment used closed = refl
-  taken_answer_seen at flow side most (Responds response) moment used closed = killed_seen (without_response flow) moment used closed
-  taken_answer_seen at flow side most Kills moment used closed = killed_seen (without_response flow) moment used closed
+  dial_leads_seen : (to : Place) (at : At) (flow : Flow) (how : Sent) (value : Reply) → retimed_stage see (dial_leads to at flow how value) ≡ dial_leads to at (retimed_flow see flow) how value
+  dial_leads_seen to at flow how reply.Dialled = refl
+  dial_leads_seen to at flow how (reply.Refused fault) = refl
+  dial_leads_seen to at flow how (reply.Go given stream) = refl
+  dial_leads_seen to at flow how (reply.Respond response) = refl
+  dial_leads_seen to at flow how reply.Kill = refl
+  dial_leads_seen to at flow how reply.Discard = refl
 
-  answer_head_turn_seen : (terms : Terms) (at : At) (flow : Flow) (side : ℕ) (head : ReadResponse) (seen : Sight) (answer : Timed Reply) →
-      retimed_turn see (turn_answer_head terms at flow side head seen answer)
-      ≡ turn_answer_head terms at (retimed_flow see flow) side head (retimed_sight see seen) (retimed_reply see answer)
-  answer_head_turn_seen terms at flow side head seen answer =
-      taken_answer_seen at (with_answer flow (response_of head) seen.now) side (allowed_by terms.streams answer.value)
+  taken_answer_seen : (at : At) (flow : Flow) (side : ℕ) (how : Sent) (most : Option ℕ) (taken : Taken Response) (moment : ℕ) (used : Used) (closed : Bool) →
+      retimed_turn see (turn_taken_answer at flow side how most taken moment used closed)
+      ≡ turn_taken_answer at (retimed_flow see flow) side how most taken (see moment) used closed
+  taken_answer_seen at flow side how most (GoesOn response) moment used closed = refl
+  taken_answer_seen at flow side how most (Responds response) moment used closed = killed_seen (without_response flow) moment used closed
+  taken_answer_seen at flow side how most Kills moment used closed = killed_seen (without_response flow) moment used closed
+
+  answer_head_turn_seen : (terms : Terms) (at : At) (flow : Flow) (side : ℕ) (how : Sent) (head : ReadResponse) (seen : Sight) (answer : Timed Reply) →
+      retimed_turn see (turn_answer_head terms at flow side how head seen answer)
+      ≡ turn_answer_head terms at (retimed_flow see flow) side how head (retimed_sight see seen) (retimed_reply see answer)
+  answer_head_turn_seen terms at flow side how head seen answer =
+      taken_answer_seen at (with_answer flow (response_of head) seen.now) side how (allowed_by terms.streams answer.value)
       (taken_at_response_head (response_of head) answer.value) answer.moment (server_in side seen) seen.closed
 
-  answer_turn_seen : (terms : Terms) (at : At) (flow : Flow) (side : ℕ) (item : Item ReadResponse) (seen : Sight) (answer : Timed Reply) →
-      retimed_turn see (turn_answer terms at flow side item seen answer)
-      ≡ turn_answer terms at (retimed_flow see flow) side item (retimed_sight see seen) (retimed_reply see answer)
-  answer_turn_seen terms at flow side missing seen answer = refl
-  answer_turn_seen terms at flow side (part head body) seen answer = answer_head_turn_seen terms at flow side head seen answer
-  answer_turn_seen terms at flow side (complete head body trailers size) seen answer = answer_head_turn_seen terms at flow side head seen answer
-  answer_turn_seen terms at flow side (bad_head fault) seen answer = refl
-  answer_turn_seen terms at flow side (bad_body fault head body) seen answer = answer_head_turn_seen terms at flow side head seen answer
+  answer_turn_seen : (terms : Terms) (at : At) (flow : Flow) (side : ℕ) (how : Sent) (item : Item ReadResponse) (seen : Sight) (answer : Timed Reply) →
+      retimed_turn see (turn_answer terms at flow side how item seen answer)
+      ≡ turn_answer terms at (retimed_flow see flow) side how item (retimed_sight see seen) (retimed_reply see answer)
+  answer_turn_seen terms at flow side how missing seen answer = refl
+  answer_turn_seen terms at flow side how (part head body) seen answer = answer_head_turn_seen terms at flow side how head seen answer
+  answer_turn_seen terms at flow side how (complete head body trailers size) seen answer = answer_head_turn_seen terms at flow side how head seen answer
+  answer_turn_seen terms at flow side how (bad_head fault) seen answer = refl
+  answer_turn_seen terms at flow side how (bad_body fault head body) seen answer = answer_head_turn_seen terms at flow side how head seen answer
 
   shut_unless_seen : (stays : Bool) (parked : Used) (closed : Bool) → map (retimed see) (shut_unless stays parked closed) ≡ shut_unless stays parked closed
   shut_unless_seen true parked closed = refl
@@ -350,10 +382,10 @@ module _ (see : ℕ → ℕ) where
   behind_seen true at = refl
   behind_seen false at = refl
 
-  finish_seen : (at : At) (flow : Flow) (response : Response) (served parked : Used) (closed : Bool) →
-      retimed_turn see (finish at flow response served parked closed) ≡ finish at (retimed_flow see flow) response served parked closed
-  finish_seen at flow response served parked closed =
-      let stays = connection_goes_on at.flow flow.request response in
+  finish_seen : (at : At) (flow : Flow) (how : Sent) (response : Response) (served parked : Used) (closed : Bool) →
+      retimed_turn see (finish at flow how response served parked closed) ≡ finish at (retimed_flow see flow) how response served parked closed
+  finish_seen at flow how response served parked closed =
+      let stays = is_sent how && connection_goes_on at.flow flow.request response in
       turning_eq _ _ _ _
       (map-append (retimed see) (finished flow response served) (shut_unless stays parked closed)
       ∙ (ap (λ l. l ++ map (retimed see) (shut_unless stays parked closed)) (finished_seen flow response served)
@@ -363,7 +395,7 @@ module _ (see : ℕ → ℕ) where
   taken_returned_seen : (at : At) (flow : Flow) (taken : Taken Response) (moment : ℕ) (parked : Used) (closed : Bool) →
       retimed_turn see (turn_taken_returned at flow taken moment parked closed)
       ≡ turn_taken_returned at (retimed_flow see flow) taken (see moment) parked closed
-  taken_returned_seen at flow (GoesOn response) moment parked closed = finish_seen at flow response NoServer parked closed
+  taken_returned_seen at flow (GoesOn response) moment parked closed = finish_seen at flow all_sent response NoServer parked closed
   taken_returned_seen at flow (Responds response) moment parked closed = killed_seen flow moment parked closed
   taken_returned_seen at flow Kills moment parked closed = killed_seen flow moment parked closed
 
@@ -387,34 +419,34 @@ module _ (see : ℕ → ℕ) where
       response_seen flow.response _ _ _
       (λ taken. taken_returned_seen at flow taken answer.moment parked closed)
 
-  finish_by_seen : (switches : Bool) (at : At) (flow : Flow) (response : Response) (side : ℕ) (used : Used) (closed : Bool) →
-      retimed_turn see (finish_by switches at flow response side used closed) ≡ finish_by switches at (retimed_flow see flow) response side used closed
-  finish_by_seen true at flow response side used closed = refl
-  finish_by_seen false at flow response side used closed = finish_seen (unparked at) flow response used NoServer closed
+  finish_by_seen : (switches : Bool) (at : At) (flow : Flow) (how : Sent) (response : Response) (side : ℕ) (used : Used) (closed : Bool) →
+      retimed_turn see (finish_by switches at flow how response side used closed) ≡ finish_by switches at (retimed_flow see flow) how response side used closed
+  finish_by_seen true at flow how response side used closed = refl
+  finish_by_seen false at flow how response side used closed = finish_seen (unparked at) flow how response used NoServer closed
 
-  taken_whole_seen : (at : At) (flow : Flow) (side : ℕ) (taken : Taken Response) (moment : ℕ) (used : Used) (closed : Bool) →
-      retimed_turn see (turn_taken_whole at flow side taken moment used closed)
-      ≡ turn_taken_whole at (retimed_flow see flow) side taken (see moment) used closed
-  taken_whole_seen at flow side (GoesOn response) moment used closed = finish_by_seen (response.status == 101) at flow response side used closed
-  taken_whole_seen at flow side (Responds response) moment used closed = killed_seen flow moment used closed
-  taken_whole_seen at flow side Kills moment used closed = killed_seen flow moment used closed
+  taken_whole_seen : (at : At) (flow : Flow) (side : ℕ) (how : Sent) (taken : Taken Response) (moment : ℕ) (used : Used) (closed : Bool) →
+      retimed_turn see (turn_taken_whole at flow side how taken moment used closed)
+      ≡ turn_taken_whole at (retimed_flow see flow) side how taken (see moment) used closed
+  taken_whole_seen at flow side how (GoesOn response) moment used closed = finish_by_seen (is_sent how && response.status == 101) at flow how response side used closed
+  taken_whole_seen at flow side how (Responds response) moment used closed = killed_seen flow moment used closed
+  taken_whole_seen at flow side how Kills moment used closed = killed_seen flow moment used closed
 
-  read_whole_seen : (at : At) (flow : Flow) (side : ℕ) (answer : Timed Reply) (used : Used) (closed : Bool) →
-      retimed_turn see (turn_read_whole at flow side answer used closed)
-      ≡ turn_read_whole at (retimed_flow see flow) side (retimed_reply see answer) used closed
-  read_whole_seen at flow side answer used closed =
+  read_whole_seen : (at : At) (flow : Flow) (side : ℕ) (how : Sent) (answer : Timed Reply) (used : Used) (closed : Bool) →
+      retimed_turn see (turn_read_whole at flow side how answer used closed)
+      ≡ turn_read_whole at (retimed_flow see flow) side how (retimed_reply see answer) used closed
+  read_whole_seen at flow side how answer used closed =
       response_seen flow.response _ _ _
-      (λ taken. taken_whole_seen at flow side taken answer.moment used closed)
+      (λ taken. taken_whole_seen at flow side how taken answer.moment used closed)
 
-  returned_turn_seen : (at : At) (flow : Flow) (side : ℕ) (item : Item ReadResponse) (seen : Sight) (answer : Timed Reply) →
-      retimed_turn see (turn_returned at flow side item seen answer)
-      ≡ turn_returned at (retimed_flow see flow) side item (retimed_sight see seen) (retimed_reply see answer)
-  returned_turn_seen at flow side missing seen answer = refl
-  returned_turn_seen at flow side (part head body) seen answer = refl
-  returned_turn_seen at flow side (complete head body trailers size) seen answer =
-      read_whole_seen at (with_returned flow body.content trailers seen.now) side answer (server_in side seen) seen.closed
-  returned_turn_seen at flow side (bad_head fault) seen answer = refl
-  returned_turn_seen at flow side (bad_body fault head body) seen answer = refl
+  returned_turn_seen : (at : At) (flow : Flow) (side : ℕ) (how : Sent) (item : Item ReadResponse) (seen : Sight) (answer : Timed Reply) →
+      retimed_turn see (turn_returned at flow side how item seen answer)
+      ≡ turn_returned at (retimed_flow see flow) side how item (retimed_sight see seen) (retimed_reply see answer)
+  returned_turn_seen at flow side how missing seen answer = refl
+  returned_turn_seen at flow side how (part head body) seen answer = refl
+  returned_turn_seen at flow side how (complete head body trailers size) seen answer =
+      read_whole_seen at (with_returned flow body.content trailers seen.now) side how answer (server_in side seen) seen.closed
+  returned_turn_seen at flow side how (bad_head fault) seen answer = refl
+  returned_turn_seen at flow side how (bad_body fault head body) seen answer = refl
 
   given_turn_seen : (at : At) (flow : Flow) (answer : Timed Reply) (parked : Used) (closed : Bool) →
       retimed_turn see (turn_given_head at flow answer parked closed) ≡ turn_given_head at (retimed_flow see flow) (retimed_reply see answer) parked closed
@@ -425,13 +457,13 @@ module _ (see : ℕ → ℕ) where
   pub turn_shown : (terms : Terms) (stage : Stage) (seen : Sight) (answer : Timed Reply) →
       retimed_turn see (turn terms stage seen answer) ≡ turn terms (retimed_stage see stage) (shown_sight see stage seen) (retimed_reply see answer)
   turn_shown terms (idle at) seen answer = head_turn_seen terms at (request_in seen) seen answer
-  turn_shown terms (busy at flow (request_body given)) seen answer = body_turn_seen terms.place at flow (request_in seen) seen answer
-  turn_shown terms (busy at flow connection) seen answer =
-      turning_eq _ _ _ _ (dial_owes_seen terms.place flow at.dials answer.value answer.moment seen.closed) (dial_leads_seen terms.place at flow answer.value)
+  turn_shown terms (busy at flow (request_body given most)) seen answer = body_turn_seen terms.place at flow (request_in seen) seen answer
+  turn_shown terms (busy at flow (connection how)) seen answer =
+      turning_eq _ _ _ _ (dial_owed_seen how terms.place flow at.dials answer.value answer.moment seen.closed) (dial_leads_seen terms.place at flow how answer.value)
   turn_shown terms (busy at flow (response_head side how)) seen answer =
-      answer_turn_seen terms at flow side (answers_in flow.request seen).final seen answer
+      answer_turn_seen terms at flow side how (answers_in flow.request seen).final seen answer
   turn_shown terms (busy at flow (response_body side how most)) seen answer =
-      returned_turn_seen at flow side (answers_in flow.request seen).final seen answer
+      returned_turn_seen at flow side how (answers_in flow.request seen).final seen answer
   turn_shown terms (busy at flow (coming_down side how)) seen answer = refl
   turn_shown terms (busy at flow (upgraded side)) seen answer = refl
   turn_shown terms (busy at flow given_head) seen answer =
@@ -445,43 +477,147 @@ module _ (see : ℕ → ℕ) where
 
   -- ---- where it passes
 
-  passed_seen : (at : At) (flow : Flow) (given : Option Response) (item : Item ReadRequest) (now : ℕ) →
-      retimed_stage see (pass_body at flow given item now) ≡ pass_body at (retimed_flow see flow) given item (see now)
-  passed_seen at flow None item now = refl
-  passed_seen at flow (Some response) missing now = refl
-  passed_seen at flow (Some response) (part head body) now = refl
-  passed_seen at flow (Some response) (complete head body trailers used) now = refl
-  passed_seen at flow (Some response) (bad_head fault) now = refl
-  passed_seen at flow (Some response) (bad_body fault head body) now = refl
+  -- one that begins to go up, or whose response is given
+
+  given_seen : (at : At) (flow : Flow) (response : Response) (most : Option ℕ) (item : Item ReadRequest) (now : ℕ) →
+      retimed_stage see (pass_given at flow response most item now) ≡ pass_given at (retimed_flow see flow) response most item (see now)
+  given_seen at flow response most missing now = refl
+  given_seen at flow response most (part head body) now = refl
+  given_seen at flow response most (complete head body trailers used) now = refl
+  given_seen at flow response most (bad_head fault) now = refl
+  given_seen at flow response most (bad_body fault head body) now = refl
+
+  goes_up_seen : (side : Option ℕ) (to : Place) (at : At) (flow : Flow) → retimed_stage see (goes_up_by side to at flow) ≡ goes_up_by side to at (retimed_flow see flow)
+  goes_up_seen None to at flow = refl
+  goes_up_seen (Some side) to at flow = refl
+
+  -- what was seen of a side, whenever
+  unheard_seen : (side : Option ℕ) (seen : Sight) → is_unheard side (retimed_sight see seen) ≡ is_unheard side seen
+  unheard_seen None seen = refl
+  unheard_seen (Some server) seen = refl
+
+  going_seen : (up : Bool) (to : Place) (at : At) (flow : Flow) (most : Option ℕ) → retimed_stage see (pass_going up to at flow most) ≡ pass_going up to at (retimed_flow see flow) most
+  going_seen true to at flow most = goes_up_seen (parked_for to flow.request at.parked) to at (sending_on flow)
+  going_seen false to at flow most = refl
+
+  pub begun_shown : (terms : Terms) (stage : Stage) (seen : Sight) → retimed_stage see (begin_up terms stage seen) ≡ begin_up terms (retimed_stage see stage) (retimed_sight see seen)
+  begun_shown terms (idle at) seen = refl
+  begun_shown terms (busy at flow (request_body None most)) seen =
+      going_seen (begins_going terms.place at flow most seen) terms.place at flow most
+      ∙ ap (λ b. pass_going (goes_up most seen && b) terms.place at (retimed_flow see flow) most) (sym (unheard_seen (parked_for terms.place flow.request at.parked) seen))
+  begun_shown terms (busy at flow (request_body (Some response) most)) seen = given_seen at flow response most (request_in seen) seen.now
+  begun_shown terms (busy at flow (connection how)) seen = refl
+  begun_shown terms (busy at flow (response_head side how)) seen = refl
+  begun_shown terms (busy at flow (response_body side how most)) seen = refl
+  begun_shown terms (busy at flow (coming_down side how)) seen = refl
+  begun_shown terms (busy at flow (upgraded side)) seen = refl
+  begun_shown terms (busy at flow given_head) seen = refl
+  begun_shown terms (busy at flow given_body) seen = refl
+  begun_shown terms (next at) seen = refl
+  begun_shown terms over seen = refl
+
+  pub begun_left : (stage : Stage) (seen : Sight) → retimed_sight see (sight_begun stage seen) ≡ sight_begun (retimed_stage see stage) (retimed_sight see seen)
+  begun_left (idle at) seen = refl
+  begun_left (busy at flow (request_body None most)) seen = refl
+  begun_left (busy at flow (request_body (Some response) most)) seen = refl
+  begun_left (busy at flow (connection how)) seen = refl
+  begun_left (busy at flow (response_head side how)) seen = refl
+  begun_left (busy at flow (response_body side how most)) seen = refl
+  begun_left (busy at flow (coming_down side how)) seen = refl
+  begun_left (busy at flow (upgraded side)) seen = refl
+  begun_left (busy at flow given_head) seen = refl
+  begun_left (busy at flow given_body) seen = refl
+  begun_left (next at) seen = refl
+  begun_left over seen = refl
+
+  -- one that goes up and is whole
+  ended_by : (going : Option ℕ) (to : Place) (at : At) (flow : Flow) (doing : Doing) (seen : Sight) →
+      retimed_turn see (end_by going to at flow doing seen) ≡ end_by going to at (retimed_flow see flow) doing (retimed_sight see seen)
+  ended_by None to at flow doing seen = refl
+  ended_by (Some server) to at flow doing seen = refl
+
+  pub ended_shown : (terms : Terms) (stage : Stage) (seen : Sight) → retimed_turn see (end_up terms stage seen) ≡ end_up terms (retimed_stage see stage) (retimed_sight see seen)
+  ended_shown terms (idle at) seen = refl
+  ended_shown terms (busy at flow doing) seen = ended_by (gone_by (going_at doing) (whole_in seen)) terms.place at flow doing seen
+  ended_shown terms (next at) seen = refl
+  ended_shown terms over seen = refl
+
+  past_by : (going : Option ℕ) (seen : Sight) → retimed_sight see (past_gone going seen) ≡ past_gone going (retimed_sight see seen)
+  past_by None seen = refl
+  past_by (Some server) seen = refl
+
+  pub ended_left : (stage : Stage) (seen : Sight) → retimed_sight see (sight_ended stage seen) ≡ sight_ended (retimed_stage see stage) (retimed_sight see seen)
+  ended_left (idle at) seen = refl
+  ended_left (busy at flow doing) seen = past_by (gone_by (going_at doing) (whole_in seen)) seen
+  ended_left (next at) seen = refl
+  ended_left over seen = refl
 
   -- a streamed response that is whole, or is not
-  came_shown : (at : At) (flow : Flow) (side : ℕ) (how : Sent) (seen : Sight) (came : Option Came) →
-      retimed_turn see (pass_came at flow side how seen came) ≡ pass_came at (retimed_flow see flow) side how (retimed_sight see seen) came
-  came_shown at flow side how seen None = refl
-  came_shown at flow side how seen (Some came) =
-      let stays : Bool = goes_on_behind at.flow flow.request came in
+  up_owed_seen : (how : Sent) (to : Place) (flow : Flow) (side : ℕ) (seen : Sight) → map (retimed see) (sends_up to flow side how seen) ≡ sends_up to (retimed_flow see flow) side how (retimed_sight see seen)
+  up_owed_seen all_sent to flow side seen = refl
+  up_owed_seen going_up to flow side seen = refl
+
+  finished_seen_so : (flow : Flow) (seen : Sight) (used : Used) →
+      map (retimed see) (finished_coming flow seen used) ≡ finished_coming (retimed_flow see flow) (retimed_sight see seen) used
+  finished_seen_so flow seen used = ap (λ l. commands.Send Client (coming_text flow seen) ∷ commands.Done (with_end (retimed_flow see flow) (see seen.now)) ∷ l) (shut_server_seen used)
+
+  came_shown : (to : Place) (at : At) (flow : Flow) (side : ℕ) (how : Sent) (seen : Sight) (came : Option Came) →
+      retimed_turn see (pass_came to at flow side how seen came) ≡ pass_came to at (retimed_flow see flow) side how (retimed_sight see seen) came
+  came_shown to at flow side how seen None = refl
+  came_shown to at flow side how seen (Some came) =
+      let stays : Bool = is_sent how && goes_on_behind at.flow flow.request came in
       let used : Used = server_in side seen in
+      let up : List Command = sends_up to flow side how seen in
+      let done : List Command = finished_coming flow seen used in
+      let shuts : List Command = shut_unless stays NoServer seen.closed in
       turning_eq _ _ _ _
-      (map-append (retimed see) (finished_coming flow seen used) (shut_unless stays NoServer seen.closed)
-      ∙ (ap (λ l. (commands.Send Client (coming_text flow seen) ∷ commands.Done (with_end (retimed_flow see flow) (see seen.now)) ∷ l)
-      ++ map (retimed see) (shut_unless stays NoServer seen.closed)) (shut_server_seen used)
-      ∙ ap (λ l. finished_coming (retimed_flow see flow) (retimed_sight see seen) used ++ l) (shut_unless_seen stays NoServer seen.closed)))
+      (map-append (retimed see) up (done ++ shuts)
+      ∙ (ap (λ l. l ++ map (retimed see) (done ++ shuts)) (up_owed_seen how to flow side seen)
+      ∙ ap (λ l. sends_up to (retimed_flow see flow) side how (retimed_sight see seen) ++ l)
+      (map-append (retimed see) done shuts
+      ∙ (ap (λ l. l ++ map (retimed see) shuts) (finished_seen_so flow seen used)
+      ∙ ap (λ l. finished_coming (retimed_flow see flow) (retimed_sight see seen) used ++ l) (shut_unless_seen stays NoServer seen.closed)))))
       (behind_seen stays (unparked at))
 
-  kept_shown : (streams : Bool) (at : At) (flow : Flow) (side : ℕ) (how : Sent) (most : Option ℕ) (seen : Sight) →
-      retimed_turn see (pass_kept streams at flow side how most seen) ≡ pass_kept streams at (retimed_flow see flow) side how most (retimed_sight see seen)
-  kept_shown true at flow side how most seen = came_shown at (streaming flow) side how seen (came_in (streaming flow) seen)
-  kept_shown false at flow side how most seen = refl
+  kept_shown : (streams : Bool) (to : Place) (at : At) (flow : Flow) (side : ℕ) (how : Sent) (most : Option ℕ) (seen : Sight) →
+      retimed_turn see (pass_kept streams to at flow side how most seen) ≡ pass_kept streams to at (retimed_flow see flow) side how most (retimed_sight see seen)
+  kept_shown true to at flow side how most seen = came_shown to at (streaming flow) side how seen (came_in (streaming flow) seen)
+  kept_shown false to at flow side how most seen = refl
 
-  pub pass_shown : (stage : Stage) (seen : Sight) → retimed_turn see (pass stage seen) ≡ pass (retimed_stage see stage) (shown_sight see stage seen)
-  pass_shown (idle at) seen = refl
-  pass_shown (busy at flow (request_body given)) seen = turning_eq [] [] _ _ refl (passed_seen at flow given (request_in seen) seen.now)
-  pass_shown (busy at flow connection) seen = refl
-  pass_shown (busy at flow (response_head side how)) seen = refl
-  pass_shown (busy at flow (response_body side how most)) seen = kept_shown (streams_in flow most seen) at flow side how most seen
-  pass_shown (busy at flow (coming_down side how)) seen = came_shown at flow side how seen (came_in flow seen)
-  pass_shown (busy at flow (upgraded side)) seen = refl
-  pass_shown (busy at flow given_head) seen = refl
-  pass_shown (busy at flow given_body) seen = refl
-  pass_shown (next at) seen = refl
-  pass_shown over seen = refl
+  pub come_shown : (terms : Terms) (stage : Stage) (seen : Sight) → retimed_turn see (come_down terms stage seen) ≡ come_down terms (retimed_stage see stage) (retimed_sight see seen)
+  come_shown terms (idle at) seen = refl
+  come_shown terms (busy at flow (request_body given most)) seen = refl
+  come_shown terms (busy at flow (connection how)) seen = refl
+  come_shown terms (busy at flow (response_head side how)) seen = refl
+  come_shown terms (busy at flow (response_body side how most)) seen = kept_shown (streams_in flow most seen) terms.place at flow side how most seen
+  come_shown terms (busy at flow (coming_down side how)) seen = came_shown terms.place at flow side how seen (came_in flow seen)
+  come_shown terms (busy at flow (upgraded side)) seen = refl
+  come_shown terms (busy at flow given_head) seen = refl
+  come_shown terms (busy at flow given_body) seen = refl
+  come_shown terms (next at) seen = refl
+  come_shown terms over seen = refl
+
+  -- what passes behind where a request began to go up
+  abbrev behind_begun : Terms → Stage → Sight → Turn Stage Command
+  behind_begun terms to seen = behind_turn (end_up terms to seen) (come_down terms (end_up terms to seen).stage (sight_ended to seen))
+
+  begun_seen : (terms : Terms) (stage : Stage) (seen : Sight) → retimed_turn see (behind_begun terms stage seen) ≡ behind_begun terms (retimed_stage see stage) (retimed_sight see seen)
+  begun_seen terms stage seen =
+      let up : Turn Stage Command = end_up terms stage seen in
+      let left : Sight = sight_ended stage seen in
+      let down : Turn Stage Command = come_down terms up.stage left in
+      turning_eq _ _ _ _ (map-append (retimed see) up.owed down.owed) refl
+      ∙ (ap (λ d. behind_turn (retimed_turn see up) d) (come_shown terms up.stage left)
+      ∙ (ap (λ u. behind_turn u (come_down terms u.stage (retimed_sight see left))) (ended_shown terms stage seen)
+      ∙ ap (λ s. behind_turn (end_up terms (retimed_stage see stage) (retimed_sight see seen))
+      (come_down terms (end_up terms (retimed_stage see stage) (retimed_sight see seen)).stage s)) (ended_left stage seen)))
+
+  pub pass_shown : (terms : Terms) (stage : Stage) (seen : Sight) → retimed_turn see (pass terms stage seen) ≡ pass terms (retimed_stage see stage) (shown_sight see stage seen)
+  pass_shown terms (idle at) seen = refl
+  pass_shown terms (busy at flow doing) seen =
+      let stage : Stage = busy at flow doing in
+      begun_seen terms (begin_up terms stage seen) (sight_begun stage seen)
+      ∙ (ap (λ to. behind_begun terms to (retimed_sight see (sight_begun stage seen))) (begun_shown terms stage seen)
+      ∙ ap (λ v. behind_begun terms (begin_up terms (retimed_stage see stage) (retimed_sight see seen)) v) (begun_left stage seen))
+  pass_shown terms (next at) seen = refl
+  pass_shown terms over seen = refl

@@ -1,6 +1,7 @@
 -- Where nothing is found behind passing, a piece is worked off: what is owed then, passing before it and behind it, is what is owed where
 -- the piece was heard before the stage passed.
 use Rattle.std.proofs.Common.{◌≡◌, ℕ, Bool, true, false, List, [], ◌++◌, Option, Some, None, refl, ap, sym, ◌∙◌, subst}
+use Rattle.std.specs.Prelude.{◌&&◌}
 use Rattle.std.proofs.lemmas.List.{append-nil}
 use Rattle.px_message.specs.declared.flow.Flow.{Flow}
 use Rattle.px_message.specs.declared.response.Response.{Response}
@@ -8,38 +9,47 @@ use Rattle.px_event.specs.declared.command.Command.{Command}
 use Rattle.px_event.specs.declared.event.Event.{Event}
 use Rattle.px_event.specs.declared.event.Event.TheVariants as events
 use Rattle.px_event.specs.declared.side.Side.{Side}
-use Rattle.px_event.specs.declared.side.Side.TheVariants.{Server}
+use Rattle.px_event.specs.declared.side.Side.TheVariants.{Client, Server}
 use Rattle.px_event.specs.Chain.{Look, NotYet, Turn}
 use Rattle.px_event.specs.Laws.{IsFound}
 use Rattle.px_event.specs.Sides.{piece_of}
-use Rattle.px_read.specs.Items.{Item, missing, part, complete, bad_head, bad_body, answer_list}
+use Rattle.px_read.specs.Items.{Item, missing, part, complete, bad_head, bad_body, answer_list, request_item}
 use Rattle.px_read.specs.declared.head.RequestHead.{RequestHead as ReadRequest}
+use Rattle.px_exchange.specs.Flows.{with_body}
+use Rattle.px_exchange.specs.Places.{is_same_address, server_for}
 use Rattle.px_exchange.specs.Requests.{is_head}
 use Rattle.px_exchange.specs.declared.terms.Terms.{Terms}
-use Rattle.px_chain.specs.Chain.{IsOnward, alone, behind_flow, is_alone, is_sequence, look, pass, pass_body, pass_came, pass_kept, past_came, past_kept, sequence, sight_past}
+use Rattle.px_chain.specs.Chain.{IsOnward, alone, begins_going, behind_flow, come_down, goes_to, goes_up_by, is_alone, is_sequence, is_unheard, look, parked_for, pass, pass_came, pass_given, pass_going, pass_kept, past_came, past_gone, past_kept, reached, sequence, side_if, sight_come, sight_past}
 use Rattle.px_chain.specs.Coming.{Came, came_in, goes_on_behind, streaming, streams_in}
-use Rattle.px_chain.specs.Sights.{Sight, request_in, left_by}
-use Rattle.px_chain.specs.Stages.{At, Doing, Sent, Stage, busy, coming_down, connection, given_body, given_head, idle, next, over, request_body, response_body, response_head, side_of, unparked, upgraded}
+use Rattle.px_chain.specs.Going.{is_sent, sending_on, sends_going, whole_by, whole_in, with_whole}
+use Rattle.px_chain.specs.Sights.{Sight, left_by, request_in}
+use Rattle.px_chain.specs.Stages.{At, Doing, Parked, Sent, Stage, all_sent, busy, coming_down, connection, given_body, given_head, going_up, idle, next, over, request_body, response_body, response_head, side_of, side_parked, unparked, upgraded}
+use Rattle.px_chain.proofs.GoingLaws.{goes_up_stays}
+use Rattle.px_chain.proofs.ChainLaws.{behind_turn, leaves_by, passes_by}
+use Rattle.px_cuts.specs.Alike.{MayBeCut, NoneBegins, of_apart, of_client}
+use Rattle.px_cuts.specs.Cuts.{GoesUpApart, none_parked, none_streamed}
 use Rattle.px_cuts.specs.Shown.{hears}
+use Rattle.px_cuts.proofs.BesideLaws.{RequestSame, begins_none, begins_streamed, begins_unheard, decided_request, not_both, unheard_with, whole_decided}
 use Rattle.px_cuts.proofs.ComingLaws.{streams_on}
-use Rattle.px_cuts.proofs.PlaceLaws.{busy_on, now_at, sight_on}
-use Rattle.px_cuts.proofs.StayLaws.{PassesWith, ReadersStay, came_decided, came_passes, kept_passes, tells_same}
-use Rattle.px_read.specs.Laws.{is_decided}
-use Rattle.px_exchange.specs.Flows.{with_body}
+use Rattle.px_cuts.proofs.PassLaws.{ComesWith, came_comes, came_ended, given_goes, given_left, kept_comes, left_begun, none_behind, passes_begun, past_heard, tells_ended, text_heard}
+use Rattle.px_cuts.proofs.PlaceLaws.{busy_on, make, now_at, over_on, sight_on}
+use Rattle.px_cuts.proofs.StayLaws.{ReadersStay}
 
-abbrev make : List ℕ → Bool → List ℕ → Bool → ℕ → Sight
-make client closed server shut now = record { client = client; closed = closed; server = server; shut = shut; now = now }
+-- what a stage may be worked off with
+pub data MayWork (terms : Terms) (side : Side) (stage : Stage) (seen : Sight) : Type 0 where
+  may_cut : MayBeCut terms side stage → MayWork terms side stage seen
+  begins_not : NoneBegins terms.place stage seen → MayWork terms side stage seen
 
-module _ (side : Side) (bytes : List ℕ) where
+module _ (terms : Terms) (readers : ReadersStay) (side : Side) (bytes : List ℕ) where
   abbrev piece : Event
   piece = events.Piece side bytes
 
   -- This was owed where it passed to the first stage, which hears the piece in what was left and passes once more: so is all that is
   -- owed where it passes with the piece, and so it leads on, and leaves.
   pub record Works (onward : Stage → Stage) (owed : List Command) (first : Stage) (left : Sight) (whole : Turn Stage Command) (past : Sight) : Type 0 where
-    pub owes : owed ++ (pass first (hears (side_of first) left piece)).owed ≡ whole.owed
-    pub leads : onward (pass first (hears (side_of first) left piece)).stage ≡ onward whole.stage
-    pub leaves : sight_on onward first (hears (side_of first) left piece) ≡ past
+    pub owes : owed ++ (pass terms first (hears (side_of first) left piece)).owed ≡ whole.owed
+    pub leads : onward (pass terms first (hears (side_of first) left piece)).stage ≡ onward whole.stage
+    pub leaves : sight_on onward terms first (hears (side_of first) left piece) ≡ past
 
   -- what is left of a sight, by the stage that is led to
   abbrev left_at : Stage → Sight → Sight
@@ -48,12 +58,13 @@ module _ (side : Side) (bytes : List ℕ) where
   -- at a stage that sees this
   abbrev pub WorksAt : (Stage → Stage) → Stage → Sight → Type 0
   WorksAt onward stage v =
-      Works onward (pass stage v).owed (onward (pass stage v).stage) (sight_on onward stage v) (pass stage (hears (side_of stage) v piece)) (sight_on onward stage (hears (side_of stage) v piece))
+      Works onward (pass terms stage v).owed (onward (pass terms stage v).stage) (sight_on onward terms stage v)
+      (pass terms stage (hears (side_of stage) v piece)) (sight_on onward terms stage (hears (side_of stage) v piece))
 
   module _ (onward : Stage → Stage) (goes : IsOnward onward) where
     -- a stage that passes to itself, or to another one that passes so with the piece
     works_to : (at : At) (flow : Flow) (doing : Doing) (v : Sight) (whole : Turn Stage Command) (past : Sight) →
-        pass (busy at flow doing) (hears (side_of (busy at flow doing)) v piece) ≡ whole → sight_on onward (busy at flow doing) (hears (side_of (busy at flow doing)) v piece) ≡ past →
+        pass terms (busy at flow doing) (hears (side_of (busy at flow doing)) v piece) ≡ whole → sight_on onward terms (busy at flow doing) (hears (side_of (busy at flow doing)) v piece) ≡ past →
         Works onward [] (onward (busy at flow doing)) (left_at (onward (busy at flow doing)) v) whole past
     works_to at flow doing v whole past passes leaves =
         let Q : Stage → Type 0 = λ first. Works onward [] first (left_at first v) whole past in
@@ -61,8 +72,8 @@ module _ (side : Side) (bytes : List ℕ) where
         subst Q (sym (busy_on onward goes at flow doing)) there
 
     works_stay : (at : At) (flow : Flow) (doing : Doing) (v : Sight) →
-        Works onward [] (onward (busy at flow doing)) (left_at (onward (busy at flow doing)) v) (pass (busy at flow doing) (hears (side_of (busy at flow doing)) v piece))
-        (sight_on onward (busy at flow doing) (hears (side_of (busy at flow doing)) v piece))
+        Works onward [] (onward (busy at flow doing)) (left_at (onward (busy at flow doing)) v) (pass terms (busy at flow doing) (hears (side_of (busy at flow doing)) v piece))
+        (sight_on onward terms (busy at flow doing) (hears (side_of (busy at flow doing)) v piece))
     works_stay at flow doing v = works_to at flow doing v _ _ refl refl
 
   -- stages without a flow
@@ -96,154 +107,365 @@ module _ (side : Side) (bytes : List ℕ) where
   finished onward (is_alone is) goes_on at owed v = subst (λ f. Finished f goes_on at owed v) (sym is) (finished_alone goes_on at owed v)
   finished onward (is_sequence is) goes_on at owed v = subst (λ f. Finished f goes_on at owed v) (sym is) (finished_sequence goes_on at owed v)
 
-  none_behind : (goes_on : Bool) (at : At) → side_of (behind_flow goes_on (unparked at)) ≡ None
-  none_behind true at = refl
-  none_behind false at = refl
+  module _ (onward : Stage → Stage) (goes : IsOnward onward) where
+    -- something is found at an end
+    end_found : (past : Sight) → look terms (onward over) past ≡ NotYet → ⊥
+    end_found past nothing =
+        let P : Stage → Type 0 = λ s. look terms s past ≡ NotYet in
+        let R : Look Command → Type 0 = IsFound in
+        subst R (subst P (over_on onward goes) nothing) tt
 
-  module _ (terms : Terms) (readers : ReadersStay) (onward : Stage → Stage) (goes : IsOnward onward) where
-    -- a response that came: where it passes with the piece, it passes as without it
-    module _ (at : At) (flow : Flow) (own : ℕ) (how : Sent) (v : Sight) (came : Came) (stage : Stage) where
+    -- ---- a response that came down whole: where it comes down with the piece, it comes as without it
+    module _ (at : At) (flow : Flow) (own : ℕ) (v : Sight) (came : Came) (stage : Stage) where
       abbrev turned : Turn Stage Command
-      turned = pass_came at flow own how v (Some came)
+      turned = pass_came terms.place at flow own all_sent v (Some came)
 
       abbrev past : Sight
       past = past_came (Some came) v
 
-      whole_works : pass stage v ≡ turned → sight_past stage v ≡ past → PassesWith terms readers side bytes stage v →
-          Works onward turned.owed (onward turned.stage) (left_at (onward turned.stage) past) (pass stage (hears (side_of stage) v piece)) (sight_on onward stage (hears (side_of stage) v piece))
-      whole_works is left passes =
-          let more : Sight = hears (side_of stage) v piece in
+      whole_works : come_down terms stage v ≡ turned → sight_come stage v ≡ past → ComesWith terms readers side bytes (Some own) stage v →
+          let more = hears (Some own) v piece in
+          Works onward turned.owed (onward turned.stage) (left_at (onward turned.stage) past) (behind_turn (goes_to stage) (come_down terms stage more))
+          (record (sight_come stage more) { now = now_at (onward (come_down terms stage more).stage) v.now })
+      whole_works is left comes =
+          let more : Sight = hears (Some own) v piece in
           let Q : Turn Stage Command → Sight → Type 0 = λ whole rest.
-          Works onward turned.owed (onward turned.stage) (left_at (onward turned.stage) past) whole (record rest { now = now_at (onward whole.stage) v.now }) in
-          let there : Q turned (hears None past piece) = finished onward goes (goes_on_behind at.flow flow.request came) at turned.owed past in
-          let same : pass stage more ≡ turned = passes.stays ∙ is in
-          let rest : sight_past stage more ≡ hears None past piece =
-          passes.leaves
-          ∙ (ap (λ t. hears (side_of t.stage) (sight_past stage v) piece) is
+          Works onward turned.owed (onward turned.stage) (left_at (onward turned.stage) past) (behind_turn (goes_to stage) whole) (record rest { now = now_at (onward whole.stage) v.now }) in
+          let there : Q turned (hears None past piece) = finished onward goes (is_sent all_sent && goes_on_behind at.flow flow.request came) at turned.owed past in
+          let same : come_down terms stage more ≡ turned = comes.stays ∙ is in
+          let rest : sight_come stage more ≡ hears None past piece =
+          comes.leaves
+          ∙ (ap (λ t. hears (side_of t.stage) (sight_come stage v) piece) is
           ∙ (ap (λ l. hears (side_of turned.stage) l piece) left
-          ∙ ap (λ x. hears x past piece) (none_behind (goes_on_behind at.flow flow.request came) at))) in
-          subst (λ whole. Q whole (sight_past stage more)) (sym same) (subst (λ l. Q turned l) (sym rest) there)
+          ∙ ap (λ x. hears x past piece) (none_behind (is_sent all_sent && goes_on_behind at.flow flow.request came) at))) in
+          subst (λ whole. Q whole (sight_come stage more)) (sym same) (subst (λ l. Q turned l) (sym rest) there)
 
-    -- what is told of the bytes of an own side that is open: a response that came is whole
-    decided_by : (flow : Flow) (client server : List ℕ) (shut : Bool) (now : ℕ) (came : Came) → came_in flow (make client false server shut now) ≡ Some came → shut ≡ false →
-        is_decided (answer_list (is_head flow.request.method) false server).final ≡ true
-    decided_by flow client server true now came is open_side = absurd (let e : true ≡ false = open_side in cc)
-    decided_by flow client server false now came is open_side = came_decided flow.response (answer_list (is_head flow.request.method) false server).final came is
-
-    came_works : (at : At) (flow : Flow) (own : ℕ) (how : Sent) (client server : List ℕ) (shut : Bool) (now : ℕ) (came : Option Came) → came_in flow (make client false server shut now) ≡ came →
-        WorksAt onward (busy at flow (coming_down own how)) (make client false server shut now)
-    came_works at flow own how client server shut now None is =
-        let v : Sight = make client false server shut now in
-        let Q : Option Came → Type 0 = λ c.
-        Works onward (pass_came at flow own how v c).owed (onward (pass_came at flow own how v c).stage)
-        (record (past_came c v) { now = now_at (onward (pass_came at flow own how v c).stage) now })
-        (pass (busy at flow (coming_down own how)) (hears (Some own) v piece)) (sight_on onward (busy at flow (coming_down own how)) (hears (Some own) v piece)) in
-        subst Q (sym is) (works_stay onward goes at flow (coming_down own how) v)
-    came_works at flow own how client server shut now (Some came) is =
-        let v : Sight = make client false server shut now in
-        let stage : Stage = busy at flow (coming_down own how) in
-        let Q : Option Came → Type 0 = λ c.
-        Works onward (pass_came at flow own how v c).owed (onward (pass_came at flow own how v c).stage)
-        (record (past_came c v) { now = now_at (onward (pass_came at flow own how v c).stage) now })
-        (pass stage (hears (Some own) v piece)) (sight_on onward stage (hears (Some own) v piece)) in
-        subst Q (sym is)
-        (whole_works at flow own how v came stage (ap (λ c. pass_came at flow own how v c) is) (ap (λ c. past_came c v) is)
-        (came_passes terms readers side bytes at own how client server shut now flow
-        (tells_same terms readers side bytes flow.request own server shut (decided_by flow client server shut now came is))))
+    -- ---- a response that comes down
 
     -- one that is streamed from here on: with the piece it is streamed as well
-    still_streams : (flow : Flow) (own : ℕ) (most : Option ℕ) (client server : List ℕ) (shut : Bool) (now : ℕ) → streams_in flow most (make client false server shut now) ≡ true →
-        streams_in flow most (hears (Some own) (make client false server shut now) piece) ≡ true
-    still_streams flow own most client server true now is = is
-    still_streams flow own most client server false now is = streams_on flow.response flow.request most server (piece_of (Server own) piece) is
+    streams_with : (flow : Flow) (most : Option ℕ) (own : ℕ) (client server : List ℕ) (shut : Bool) (told now : ℕ) → streams_in flow most (make client false server shut told now) ≡ true →
+        streams_in flow most (hears (Some own) (make client false server shut told now) piece) ≡ true
+    streams_with flow most own client server true told now is = is
+    streams_with flow most own client server false told now is = streams_on flow.response flow.request most server (piece_of (Server own) piece) is
 
-    begun_works : (at : At) (flow : Flow) (own : ℕ) (how : Sent) (most : Option ℕ) (client server : List ℕ) (shut : Bool) (now : ℕ) (came : Option Came) →
-        streams_in flow most (make client false server shut now) ≡ true → came_in (streaming flow) (make client false server shut now) ≡ came →
-        let v : Sight = make client false server shut now in
-        Works onward (pass_came at (streaming flow) own how v came).owed (onward (pass_came at (streaming flow) own how v came).stage)
-        (record (past_came came v) { now = now_at (onward (pass_came at (streaming flow) own how v came).stage) now })
-        (pass (busy at flow (response_body own how most)) (hears (Some own) v piece)) (sight_on onward (busy at flow (response_body own how most)) (hears (Some own) v piece))
-    begun_works at flow own how most client server shut now None streams is =
-        let v : Sight = make client false server shut now in
-        let more : Sight = hears (Some own) v piece in
-        let on = still_streams flow own most client server shut now streams in
-        works_to onward goes at (streaming flow) (coming_down own how) v _ _
-        (sym (ap (λ b. pass_kept b at flow own how most more) on))
-        (sym (ap (λ b. (let there : Sight = record (past_kept b (came_in (streaming flow) more) more) { now = now_at (onward (pass_kept b at flow own how most more).stage) now } in there)) on))
-    begun_works at flow own how most client server shut now (Some came) streams is =
-        let v : Sight = make client false server shut now in
-        let stage : Stage = busy at flow (response_body own how most) in
-        whole_works at (streaming flow) own how v came stage
-        (ap (λ b. pass_kept b at flow own how most v) streams ∙ ap (λ c. pass_came at (streaming flow) own how v c) is)
-        (ap (λ b. past_kept b (came_in (streaming flow) v) v) streams ∙ ap (λ c. past_came c v) is)
-        (kept_passes terms readers side bytes at own how client server shut now flow most
-        (tells_same terms readers side bytes flow.request own server shut (decided_by (streaming flow) client server shut now came is)))
+    module _ (at : At) (own : ℕ) (client server : List ℕ) (shut : Bool) (told now : ℕ) where
+      abbrev seen : Sight
+      seen = make client false server shut told now
 
-    kept_by : (at : At) (flow : Flow) (own : ℕ) (how : Sent) (most : Option ℕ) (client server : List ℕ) (shut : Bool) (now : ℕ) (streams : Bool) →
-        streams_in flow most (make client false server shut now) ≡ streams →
-        let v : Sight = make client false server shut now in
-        Works onward (pass_kept streams at flow own how most v).owed (onward (pass_kept streams at flow own how most v).stage)
-        (record (past_kept streams (came_in (streaming flow) v) v) { now = now_at (onward (pass_kept streams at flow own how most v).stage) now })
-        (pass (busy at flow (response_body own how most)) (hears (Some own) v piece)) (sight_on onward (busy at flow (response_body own how most)) (hears (Some own) v piece))
-    kept_by at flow own how most client server shut now true is =
-        begun_works at flow own how most client server shut now (came_in (streaming flow) (make client false server shut now)) is refl
-    kept_by at flow own how most client server shut now false is = works_stay onward goes at flow (response_body own how most) (make client false server shut now)
+      abbrev heard : Sight
+      heard = hears (Some own) seen piece
 
-    kept_works : (at : At) (flow : Flow) (own : ℕ) (how : Sent) (most : Option ℕ) (client server : List ℕ) (shut : Bool) (now : ℕ) →
-        WorksAt onward (busy at flow (response_body own how most)) (make client false server shut now)
-    kept_works at flow own how most client server shut now =
-        kept_by at flow own how most client server shut now (streams_in flow most (make client false server shut now)) refl
+      -- where its request was sent, or is not whole
+      abbrev DownAt : Turn Stage Command → Sight → Turn Stage Command → Sight → Type 0
+      DownAt on past whole left =
+          Works onward on.owed (onward on.stage) (record past { now = now_at (onward on.stage) now }) whole (record left { now = now_at (onward whole.stage) now })
 
-    body_stays : (at : At) (flow : Flow) (response : Response) (item : Item ReadRequest) (v : Sight) → request_in v ≡ item →
-        pass_body at flow (Some response) item v.now ≡ busy at flow (request_body (Some response)) → left_by item v.client ≡ v.client →
-        WorksAt onward (busy at flow (request_body (Some response))) v
-    body_stays at flow response item v is stays left =
-        let stage : Stage = busy at flow (request_body (Some response)) in
-        let more : Sight = hears (side_of stage) v piece in
-        let Q : Item ReadRequest → Type 0 = λ i.
-        Works onward [] (onward (pass_body at flow (Some response) i v.now)) (record v { client = left_by i v.client; now = now_at (onward (pass_body at flow (Some response) i v.now)) v.now })
-        (pass stage more) (sight_on onward stage more) in
-        let R : Stage → List ℕ → Type 0 = λ s l. Works onward [] (onward s) (record v { client = l; now = now_at (onward s) v.now }) (pass stage more) (sight_on onward stage more) in
-        let there : R stage v.client = works_stay onward goes at flow (request_body (Some response)) v in
-        subst Q (sym is) (subst (λ s. R s (left_by item v.client)) (sym stays) (subst (λ l. R stage l) (sym left) there))
+      -- with all sent
+      came_all : (flow : Flow) (came : Option Came) → came_in flow seen ≡ came →
+          DownAt (pass_came terms.place at flow own all_sent seen came) (past_came came seen) (pass terms (busy at flow (coming_down own all_sent)) heard) (sight_past terms (busy at flow (coming_down own all_sent)) heard)
+      came_all flow None is = works_stay onward goes at flow (coming_down own all_sent) seen
+      came_all flow (Some came) is =
+          let stage : Stage = busy at flow (coming_down own all_sent) in
+          whole_works at flow own seen came stage (ap (λ c. pass_came terms.place at flow own all_sent seen c) is) (ap (λ c. past_came c seen) is)
+          (came_comes terms readers side bytes at own client server shut told now all_sent flow tt
+          (tells_ended terms readers side bytes flow.request own server shut (came_ended flow.response (answer_list (is_head flow.request.method) shut server).final came is)))
 
-    -- where a request's body is awaited and a response is given, the request is not whole
-    body_works : (at : At) (flow : Flow) (response : Response) (item : Item ReadRequest) (v : Sight) → request_in v ≡ item →
-        look terms (onward (pass_body at flow (Some response) item v.now)) (record (sight_past (busy at flow (request_body (Some response))) v) { now = now_at (onward (pass_body at flow (Some response) item v.now)) v.now }) ≡ NotYet →
-        WorksAt onward (busy at flow (request_body (Some response))) v
-    body_works at flow response missing v is nothing = body_stays at flow response missing v is refl refl
-    body_works at flow response (part head body) v is nothing = body_stays at flow response (part head body) v is refl refl
-    body_works at flow response (complete head body trailers used) v is nothing =
-        let other : Flow = record (with_body flow body.content trailers v.now) { response = Some response } in
-        let past : Sight = sight_past (busy at flow (request_body (Some response))) v in
-        let P : Stage → Type 0 = λ s. look terms s (record past { now = now_at s v.now }) ≡ NotYet in
-        let R : Look Command → Type 0 = IsFound in
-        absurd (subst R (subst P (busy_on onward goes at other given_head) nothing) tt)
-    body_works at flow response (bad_head fault) v is nothing = body_stays at flow response (bad_head fault) v is refl refl
-    body_works at flow response (bad_body fault head body) v is nothing = body_stays at flow response (bad_body fault head body) v is refl refl
+      -- so it comes down as one of which that was told
+      begun_same : (size : Option ℕ) (how : Sent) (flow : Flow) (most : Option ℕ) → streams_in flow most heard ≡ true →
+          passes_by size terms at (streaming flow) (coming_down own how) heard ≡ passes_by size terms at flow (response_body own how most) heard
+      begun_same size all_sent flow most on =
+          sym (ap (λ b. behind_turn (goes_to (busy at flow (response_body own all_sent most))) (pass_kept b terms.place at flow own all_sent most heard)) on)
+      begun_same None going_up flow most on =
+          sym (ap (λ b. behind_turn (goes_to (busy at flow (response_body own going_up most))) (pass_kept b terms.place at flow own going_up most heard)) on)
+      begun_same (Some size) going_up flow most on =
+          let whole : Flow = with_whole flow now in
+          sym (ap (λ b. behind_turn (record { owed = sends_going terms.place flow own heard; stage = busy at whole (response_body own all_sent most) })
+          (pass_kept b terms.place at whole own all_sent most (past_gone (Some own) heard))) on)
+
+      begun_left : (size : Option ℕ) (how : Sent) (flow : Flow) (most : Option ℕ) → streams_in flow most heard ≡ true →
+          leaves_by size terms at (streaming flow) (coming_down own how) heard ≡ leaves_by size terms at flow (response_body own how most) heard
+      begun_left size all_sent flow most on = sym (ap (λ b. past_kept b (came_in (streaming flow) heard) heard) on)
+      begun_left None going_up flow most on = sym (ap (λ b. past_kept b (came_in (streaming flow) heard) heard) on)
+      begun_left (Some size) going_up flow most on =
+          let whole : Flow = with_whole flow now in
+          sym (ap (λ b. past_kept b (came_in (streaming whole) (past_gone (Some own) heard)) (past_gone (Some own) heard)) on)
+
+      -- the first stage passes as the one before it does
+      begun_works : (how : Sent) (flow : Flow) (most : Option ℕ) → streams_in flow most heard ≡ true →
+          pass terms (busy at (streaming flow) (coming_down own how)) heard ≡ pass terms (busy at flow (response_body own how most)) heard →
+          sight_past terms (busy at (streaming flow) (coming_down own how)) heard ≡ sight_past terms (busy at flow (response_body own how most)) heard →
+          DownAt (goes_to (busy at (streaming flow) (coming_down own how))) seen (pass terms (busy at flow (response_body own how most)) heard) (sight_past terms (busy at flow (response_body own how most)) heard)
+      begun_works how flow most on passes leaves =
+          works_to onward goes at (streaming flow) (coming_down own how) seen _ _ passes
+          (ap (λ l. (let there : Sight = record l { now = now_at (onward (pass terms (busy at (streaming flow) (coming_down own how)) heard).stage) now } in there)) leaves
+          ∙ ap (λ t. (let there : Sight = record (sight_past terms (busy at flow (response_body own how most)) heard) { now = now_at (onward t.stage) now } in there)) passes)
+
+      kept_all_by : (flow : Flow) (most : Option ℕ) (came : Option Came) → streams_in flow most seen ≡ true → came_in (streaming flow) seen ≡ came →
+          DownAt (pass_came terms.place at (streaming flow) own all_sent seen came) (past_came came seen)
+          (pass terms (busy at flow (response_body own all_sent most)) heard) (sight_past terms (busy at flow (response_body own all_sent most)) heard)
+      kept_all_by flow most None streams is =
+          let on = streams_with flow most own client server shut told now streams in
+          begun_works all_sent flow most on (begun_same None all_sent flow most on) (begun_left None all_sent flow most on)
+      kept_all_by flow most (Some came) streams is =
+          let stage : Stage = busy at flow (response_body own all_sent most) in
+          whole_works at (streaming flow) own seen came stage
+          (ap (λ b. pass_kept b terms.place at flow own all_sent most seen) streams ∙ ap (λ c. pass_came terms.place at (streaming flow) own all_sent seen c) is)
+          (ap (λ b. past_kept b (came_in (streaming flow) seen) seen) streams ∙ ap (λ c. past_came c seen) is)
+          (kept_comes terms readers side bytes at own client server shut told now all_sent flow most tt
+          (tells_ended terms readers side bytes flow.request own server shut (came_ended (streaming flow).response (answer_list (is_head flow.request.method) shut server).final came is)))
+
+      kept_all : (flow : Flow) (most : Option ℕ) (streams : Bool) → streams_in flow most seen ≡ streams →
+          DownAt (pass_kept streams terms.place at flow own all_sent most seen) (past_kept streams (came_in (streaming flow) seen) seen)
+          (pass terms (busy at flow (response_body own all_sent most)) heard) (sight_past terms (busy at flow (response_body own all_sent most)) heard)
+      kept_all flow most true is = kept_all_by flow most (came_in (streaming flow) seen) is refl
+      kept_all flow most false is = works_stay onward goes at flow (response_body own all_sent most) seen
+
+      -- while it goes up and is not whole
+      came_none : (flow : Flow) (came : Option Came) →
+          look terms (onward (pass_came terms.place at flow own going_up seen came).stage) (record (past_came came seen) { now = now_at (onward (pass_came terms.place at flow own going_up seen came).stage) now }) ≡ NotYet →
+          DownAt (pass_came terms.place at flow own going_up seen came) (past_came came seen) (pass terms (busy at flow (coming_down own going_up)) heard) (sight_past terms (busy at flow (coming_down own going_up)) heard)
+      came_none flow None nothing = works_stay onward goes at flow (coming_down own going_up) seen
+      came_none flow (Some came) nothing = absurd (end_found _ nothing)
+
+      kept_none_by : (flow : Flow) (most : Option ℕ) (came : Option Came) → streams_in flow most seen ≡ true →
+          look terms (onward (pass_came terms.place at (streaming flow) own going_up seen came).stage)
+          (record (past_came came seen) { now = now_at (onward (pass_came terms.place at (streaming flow) own going_up seen came).stage) now }) ≡ NotYet →
+          DownAt (pass_came terms.place at (streaming flow) own going_up seen came) (past_came came seen)
+          (pass terms (busy at flow (response_body own going_up most)) heard) (sight_past terms (busy at flow (response_body own going_up most)) heard)
+      kept_none_by flow most None streams nothing =
+          let on = streams_with flow most own client server shut told now streams in
+          begun_works going_up flow most on (begun_same (whole_in heard) going_up flow most on) (begun_left (whole_in heard) going_up flow most on)
+      kept_none_by flow most (Some came) streams nothing = absurd (end_found _ nothing)
+
+      kept_none : (flow : Flow) (most : Option ℕ) (streams : Bool) → streams_in flow most seen ≡ streams →
+          look terms (onward (pass_kept streams terms.place at flow own going_up most seen).stage)
+          (record (past_kept streams (came_in (streaming flow) seen) seen) { now = now_at (onward (pass_kept streams terms.place at flow own going_up most seen).stage) now }) ≡ NotYet →
+          DownAt (pass_kept streams terms.place at flow own going_up most seen) (past_kept streams (came_in (streaming flow) seen) seen)
+          (pass terms (busy at flow (response_body own going_up most)) heard) (sight_past terms (busy at flow (response_body own going_up most)) heard)
+      kept_none flow most true is nothing = kept_none_by flow most (came_in (streaming flow) seen) is nothing
+      kept_none flow most false is nothing = works_stay onward goes at flow (response_body own going_up most) seen
+
+    -- ---- a request that goes up
+
+    module _ (at : At) (own : ℕ) (client server : List ℕ) (shut : Bool) (told now : ℕ) where
+      abbrev before : Sight
+      before = make client false server shut told now
+
+      abbrev behind : Sight
+      behind = hears (Some own) before piece
+
+      abbrev UpAt : Flow → Doing → Option ℕ → Option ℕ → Type 0
+      UpAt flow doing size later =
+          Works onward (passes_by size terms at flow doing before).owed (onward (passes_by size terms at flow doing before).stage)
+          (record (leaves_by size terms at flow doing before) { now = now_at (onward (passes_by size terms at flow doing before).stage) now })
+          (passes_by later terms at flow doing behind) (record (leaves_by later terms at flow doing behind) { now = now_at (onward (passes_by later terms at flow doing behind).stage) now })
+
+      -- where it is whole, all else is as where it was sent
+      gone_works : (flow : Flow) (to : Stage) → RequestSame terms.place flow client (piece_of Client piece) →
+          let left = past_gone (Some own) before in
+          let more = hears (Some own) left piece in
+          Works onward (come_down terms to left).owed (onward (come_down terms to left).stage) (record (sight_come to left) { now = now_at (onward (come_down terms to left).stage) now })
+          (behind_turn (goes_to to) (come_down terms to more)) (record (sight_come to more) { now = now_at (onward (come_down terms to more).stage) now }) →
+          Works onward (sends_going terms.place flow own before ++ (come_down terms to left).owed) (onward (come_down terms to left).stage)
+          (record (sight_come to left) { now = now_at (onward (come_down terms to left).stage) now })
+          (behind_turn (record { owed = sends_going terms.place flow own behind; stage = to }) (come_down terms to (past_gone (Some own) behind)))
+          (record (sight_come to (past_gone (Some own) behind)) { now = now_at (onward (come_down terms to (past_gone (Some own) behind)).stage) now })
+      gone_works flow to same works =
+          let left : Sight = past_gone (Some own) before in
+          let more : Sight = hears (Some own) left piece in
+          let G : List Command → Sight → Type 0 = λ owed p.
+          Works onward (sends_going terms.place flow own before ++ (come_down terms to left).owed) (onward (come_down terms to left).stage)
+          (record (sight_come to left) { now = now_at (onward (come_down terms to left).stage) now })
+          (behind_turn (record { owed = owed; stage = to }) (come_down terms to p)) (record (sight_come to p) { now = now_at (onward (come_down terms to p).stage) now }) in
+          let there : G (sends_going terms.place flow own before) more =
+          record { owes = ap (λ l. sends_going terms.place flow own before ++ l) works.owes; leads = works.leads; leaves = works.leaves } in
+          subst (λ owed. G owed (past_gone (Some own) behind)) (sym (text_heard terms readers side bytes at flow own client server shut told now same))
+          (subst (λ p. G (sends_going terms.place flow own before) p) (sym (past_heard terms readers side bytes at flow own client server shut told now same)) there)
+
+      whole_same : (flow : Flow) (size : ℕ) → whole_in before ≡ Some size → RequestSame terms.place flow client (piece_of Client piece)
+      whole_same flow size is = decided_request terms.place flow client (piece_of Client piece) (whole_decided (request_item client) size is)
+
+      -- it is whole with the piece too
+      whole_on : (flow : Flow) (doing : Doing) (size : ℕ) → whole_in before ≡ Some size → UpAt flow doing (Some size) (Some size) → UpAt flow doing (Some size) (whole_in behind)
+      whole_on flow doing size is works = subst (λ l. UpAt flow doing (Some size) l) (sym (ap (λ i. whole_by i) (whole_same flow size is).item ∙ is)) works
+
+      abbrev to_of : Flow → Doing → Stage
+      to_of flow doing = busy at (with_whole flow now) doing
+
+      head_up : (flow : Flow) (size : Option ℕ) → whole_in before ≡ size → UpAt flow (response_head own going_up) size (whole_in behind)
+      head_up flow None is = works_stay onward goes at flow (response_head own going_up) before
+      head_up flow (Some size) is =
+          whole_on flow (response_head own going_up) size is
+          (gone_works flow (to_of flow (response_head own all_sent)) (whole_same flow size is) (works_stay onward goes at (with_whole flow now) (response_head own all_sent) (past_gone (Some own) before)))
+
+      body_up : (flow : Flow) (most : Option ℕ) (size : Option ℕ) → whole_in before ≡ size →
+          look terms (onward (passes_by size terms at flow (response_body own going_up most) before).stage)
+          (record (leaves_by size terms at flow (response_body own going_up most) before) { now = now_at (onward (passes_by size terms at flow (response_body own going_up most) before).stage) now }) ≡ NotYet →
+          UpAt flow (response_body own going_up most) size (whole_in behind)
+      body_up flow most None is nothing = kept_none at own client server shut told now flow most (streams_in flow most before) refl nothing
+      body_up flow most (Some size) is nothing =
+          let whole : Flow = with_whole flow now in
+          let left : Sight = past_gone (Some own) before in
+          whole_on flow (response_body own going_up most) size is
+          (gone_works flow (to_of flow (response_body own all_sent most)) (whole_same flow size is)
+          (kept_all at own (left_by (request_item client) client) server shut told now whole most (streams_in whole most left) refl))
+
+      coming_up : (flow : Flow) (size : Option ℕ) → whole_in before ≡ size →
+          look terms (onward (passes_by size terms at flow (coming_down own going_up) before).stage)
+          (record (leaves_by size terms at flow (coming_down own going_up) before) { now = now_at (onward (passes_by size terms at flow (coming_down own going_up) before).stage) now }) ≡ NotYet →
+          UpAt flow (coming_down own going_up) size (whole_in behind)
+      coming_up flow None is nothing = came_none at own client server shut told now flow (came_in flow before) nothing
+      coming_up flow (Some size) is nothing =
+          let whole : Flow = with_whole flow now in
+          let left : Sight = past_gone (Some own) before in
+          whole_on flow (coming_down own going_up) size is
+          (gone_works flow (to_of flow (coming_down own all_sent)) (whole_same flow size is)
+          (came_all at own (left_by (request_item client) client) server shut told now whole (came_in whole left) refl))
+
+    -- ---- a request that may begin to go up
+
+    module _ (at : At) (flow : Flow) (most : Option ℕ) (client server : List ℕ) (shut : Bool) (told now : ℕ) where
+      abbrev v : Sight
+      v = make client false server shut told now
+
+      abbrev kept_stage : Stage
+      kept_stage = busy at flow (request_body None most)
+
+      abbrev KeptAt : Stage → Type 0
+      KeptAt to =
+          Works onward (passes_begun terms to v).owed (onward (passes_begun terms to v).stage) (record (left_begun terms to v) { now = now_at (onward (passes_begun terms to v).stage) v.now })
+          (pass terms kept_stage (hears (side_of kept_stage) v piece)) (sight_on onward terms kept_stage (hears (side_of kept_stage) v piece))
+
+      abbrev NothingAt : Stage → Type 0
+      NothingAt to = look terms (onward (passes_begun terms to v).stage) (record (left_begun terms to v) { now = now_at (onward (passes_begun terms to v).stage) v.now }) ≡ NotYet
+
+      -- a dial is found
+      dials_found : NothingAt (goes_up_by None terms.place at (sending_on flow)) → ⊥
+      dials_found nothing =
+          let P : Stage → Type 0 = λ s. look terms s (record v { now = now_at s v.now }) ≡ NotYet in
+          let R : Look Command → Type 0 = IsFound in
+          subst R (subst P (busy_on onward goes at (sending_on flow) (connection going_up)) nothing) tt
+
+      up_nothing : GoesUpApart terms kept_stage → begins_going terms.place at flow most v ≡ true → NothingAt (pass_going true terms.place at flow most) → ⊥
+      up_nothing (none_parked is) up nothing =
+          dials_found (subst (λ p. NothingAt (goes_up_by (parked_for terms.place flow.request p) terms.place at (sending_on flow))) is nothing)
+      up_nothing (none_streamed none kept) up nothing = not_both (begins_going terms.place at flow most v) (begins_none terms.place at flow most v kept) up
+
+      -- with a piece of the client it begins to go up as without it, and to the same side
+      abbrev up_of : Option ℕ → Stage
+      up_of to = goes_up_by to terms.place at (sending_on flow)
+
+      abbrev WorksTo : Stage → Sight → Type 0
+      WorksTo to w =
+          Works onward (passes_begun terms to v).owed (onward (passes_begun terms to v).stage) (record (left_begun terms to v) { now = now_at (onward (passes_begun terms to v).stage) v.now })
+          (passes_begun terms to w) (record (left_begun terms to w) { now = now_at (onward (passes_begun terms to w).stage) v.now })
+
+      works_to_side : (there : Bool) (own : ℕ) → NothingAt (up_of (side_if there own)) → WorksTo (up_of (side_if there own)) (hears (Some own) v piece)
+      works_to_side true own nothing =
+          head_up (unparked at) own client server shut told now (reached terms.place (sending_on flow)) (whole_in v) refl
+      works_to_side false own nothing = absurd (dials_found nothing)
+
+      works_parked : (parked : Option Parked) → NothingAt (up_of (parked_for terms.place flow.request parked)) →
+          WorksTo (up_of (parked_for terms.place flow.request parked)) (hears (side_parked parked) v piece)
+      works_parked None nothing = absurd (dials_found nothing)
+      works_parked (Some parked) nothing = works_to_side (is_same_address parked.address (server_for terms.place flow.request)) parked.server nothing
+
+      abbrev WorksBy : Bool → Type 0
+      WorksBy up =
+          let w : Sight = hears (side_parked at.parked) v piece in
+          let to : Stage = pass_going true terms.place at flow most in
+          let whole : Turn Stage Command = passes_begun terms (pass_going up terms.place at flow most) w in
+          Works onward (passes_begun terms to v).owed (onward (passes_begun terms to v).stage) (record (left_begun terms to v) { now = now_at (onward (passes_begun terms to v).stage) v.now })
+          whole (record (left_begun terms (pass_going up terms.place at flow most) w) { now = now_at (onward whole.stage) v.now })
+
+      begins_with : side ≡ Client → begins_going terms.place at flow most v ≡ true → begins_going terms.place at flow most (hears (side_parked at.parked) v piece) ≡ true
+      begins_with client_piece up =
+          let w : Sight = hears (side_parked at.parked) v piece in
+          ap (λ b. b && is_unheard (parked_for terms.place flow.request at.parked) w)
+          (goes_up_stays most v w (piece_of Client piece, refl) (begins_streamed terms.place at flow most v up))
+          ∙ (unheard_with terms.place flow.request at.parked v side bytes client_piece ∙ begins_unheard terms.place at flow most v up)
+
+      kept_works : (up : Bool) → begins_going terms.place at flow most v ≡ up → MayWork terms side kept_stage v → NothingAt (pass_going up terms.place at flow most) → KeptAt (pass_going up terms.place at flow most)
+      kept_works true is (may_cut (of_client client_piece)) nothing =
+          let there : WorksBy true = works_parked at.parked nothing in
+          subst WorksBy (sym (begins_with client_piece is)) there
+      kept_works true is (may_cut (of_apart apart)) nothing = absurd (up_nothing apart is nothing)
+      kept_works true is (begins_not none) nothing = absurd (not_both (begins_going terms.place at flow most v) none is)
+      kept_works false is apart nothing = works_stay onward goes at flow (request_body None most) v
+
+    -- ---- where a response is given
+
+    module _ (at : At) (flow : Flow) (response : Response) (most : Option ℕ) (v : Sight) where
+      abbrev given_stage : Stage
+      given_stage = busy at flow (request_body (Some response) most)
+
+      abbrev given_to : Item ReadRequest → Stage
+      given_to item = pass_given at flow response most item v.now
+
+      abbrev GivenAt : Stage → Sight → Type 0
+      GivenAt to left = Works onward [] (onward to) (record left { now = now_at (onward to) v.now })
+          (pass terms given_stage (hears (side_of given_stage) v piece)) (sight_on onward terms given_stage (hears (side_of given_stage) v piece))
+
+      given_stays : GivenAt given_stage v
+      given_stays = works_stay onward goes at flow (request_body (Some response) most) v
+
+      given_by : (item : Item ReadRequest) → look terms (onward (given_to item)) (record v { client = left_by item v.client; now = now_at (onward (given_to item)) v.now }) ≡ NotYet →
+          GivenAt (given_to item) (record v { client = left_by item v.client })
+      given_by missing nothing = given_stays
+      given_by (part head body) nothing = given_stays
+      given_by (complete head body trailers used) nothing =
+          let other : Flow = record (with_body flow body.content trailers v.now) { response = Some response } in
+          let past : Sight = record v { client = left_by (complete head body trailers used) v.client } in
+          let P : Stage → Type 0 = λ s. look terms s (record past { now = now_at s v.now }) ≡ NotYet in
+          let R : Look Command → Type 0 = IsFound in
+          absurd (subst R (subst P (busy_on onward goes at other given_head) nothing) tt)
+      given_by (bad_head fault) nothing = given_stays
+      given_by (bad_body fault head body) nothing = given_stays
+
+      given_works : look terms (onward (pass terms given_stage v).stage) (sight_on onward terms given_stage v) ≡ NotYet → WorksAt onward given_stage v
+      given_works nothing =
+          let item = request_in v in
+          let left : Sight = record v { client = left_by item v.client } in
+          let goes_so = given_goes terms readers side bytes onward goes at flow response most item v.now left in
+          let left_so = given_left terms readers side bytes onward goes at flow response most item v.now left in
+          let N : Turn Stage Command → Sight → Type 0 = λ t x. look terms (onward t.stage) (record x { now = now_at (onward t.stage) v.now }) ≡ NotYet in
+          let W : Turn Stage Command → Sight → Type 0 = λ t x. Works onward t.owed (onward t.stage) (record x { now = now_at (onward t.stage) v.now })
+          (pass terms given_stage (hears (side_of given_stage) v piece)) (sight_on onward terms given_stage (hears (side_of given_stage) v piece)) in
+          let there : N (goes_to (given_to item)) left =
+          subst (λ x. N (goes_to (given_to item)) x) left_so (subst (λ t. N t (left_begun terms (given_to item) left)) goes_so nothing) in
+          let works : W (goes_to (given_to item)) left = given_by item there in
+          subst (λ t. W t (left_begun terms (given_to item) left)) (sym goes_so) (subst (λ x. W (goes_to (given_to item)) x) (sym left_so) works)
 
     -- Where nothing is found behind passing, a piece is worked off.
-    works_by : (stage : Stage) (client server : List ℕ) (shut : Bool) (now : ℕ) →
-        look terms (onward (pass stage (make client false server shut now)).stage) (sight_on onward stage (make client false server shut now)) ≡ NotYet →
-        WorksAt onward stage (make client false server shut now)
-    works_by (idle at) client server shut now nothing = idle_works onward goes at (make client false server shut now)
-    works_by (busy at flow (request_body None)) client server shut now nothing = works_stay onward goes at flow (request_body None) (make client false server shut now)
-    works_by (busy at flow (request_body (Some response))) client server shut now nothing =
-        body_works at flow response (request_in (make client false server shut now)) (make client false server shut now) refl nothing
-    works_by (busy at flow connection) client server shut now nothing = works_stay onward goes at flow connection (make client false server shut now)
-    works_by (busy at flow (response_head own how)) client server shut now nothing = works_stay onward goes at flow (response_head own how) (make client false server shut now)
-    works_by (busy at flow (response_body own how most)) client server shut now nothing = kept_works at flow own how most client server shut now
-    works_by (busy at flow (coming_down own how)) client server shut now nothing =
-        came_works at flow own how client server shut now (came_in flow (make client false server shut now)) refl
-    works_by (busy at flow (upgraded own)) client server shut now nothing = works_stay onward goes at flow (upgraded own) (make client false server shut now)
-    works_by (busy at flow given_head) client server shut now nothing = works_stay onward goes at flow given_head (make client false server shut now)
-    works_by (busy at flow given_body) client server shut now nothing = works_stay onward goes at flow given_body (make client false server shut now)
-    works_by (next at) client server shut now nothing = next_works onward goes at (make client false server shut now)
-    works_by over client server shut now nothing = over_works onward goes (make client false server shut now)
+    works_by : (stage : Stage) (client server : List ℕ) (shut : Bool) (told now : ℕ) → MayWork terms side stage (make client false server shut told now) →
+        look terms (onward (pass terms stage (make client false server shut told now)).stage) (sight_on onward terms stage (make client false server shut told now)) ≡ NotYet →
+        WorksAt onward stage (make client false server shut told now)
+    works_by (idle at) client server shut told now apart nothing = idle_works onward goes at (make client false server shut told now)
+    works_by (busy at flow (request_body None most)) client server shut told now apart nothing =
+        kept_works at flow most client server shut told now (begins_going terms.place at flow most (make client false server shut told now)) refl apart nothing
+    works_by (busy at flow (request_body (Some response) most)) client server shut told now apart nothing =
+        given_works at flow response most (make client false server shut told now) nothing
+    works_by (busy at flow (connection how)) client server shut told now apart nothing = works_stay onward goes at flow (connection how) (make client false server shut told now)
+    works_by (busy at flow (response_head own all_sent)) client server shut told now apart nothing = works_stay onward goes at flow (response_head own all_sent) (make client false server shut told now)
+    works_by (busy at flow (response_head own going_up)) client server shut told now apart nothing =
+        head_up at own client server shut told now flow (whole_in (make client false server shut told now)) refl
+    works_by (busy at flow (response_body own all_sent most)) client server shut told now apart nothing =
+        kept_all at own client server shut told now flow most (streams_in flow most (make client false server shut told now)) refl
+    works_by (busy at flow (response_body own going_up most)) client server shut told now apart nothing =
+        body_up at own client server shut told now flow most (whole_in (make client false server shut told now)) refl nothing
+    works_by (busy at flow (coming_down own all_sent)) client server shut told now apart nothing =
+        came_all at own client server shut told now flow (came_in flow (make client false server shut told now)) refl
+    works_by (busy at flow (coming_down own going_up)) client server shut told now apart nothing =
+        coming_up at own client server shut told now flow (whole_in (make client false server shut told now)) refl nothing
+    works_by (busy at flow (upgraded own)) client server shut told now apart nothing = works_stay onward goes at flow (upgraded own) (make client false server shut told now)
+    works_by (busy at flow given_head) client server shut told now apart nothing = works_stay onward goes at flow given_head (make client false server shut told now)
+    works_by (busy at flow given_body) client server shut told now apart nothing = works_stay onward goes at flow given_body (make client false server shut told now)
+    works_by (next at) client server shut told now apart nothing = next_works onward goes at (make client false server shut told now)
+    works_by over client server shut told now apart nothing = over_works onward goes (make client false server shut told now)
 
-    pub works : (stage : Stage) (v : Sight) → v.closed ≡ false → look terms (onward (pass stage v).stage) (sight_on onward stage v) ≡ NotYet → WorksAt onward stage v
-    works stage v open_client nothing =
-        let P : Bool → Type 0 = λ b.
-        look terms (onward (pass stage (make v.client b v.server v.shut v.now)).stage) (sight_on onward stage (make v.client b v.server v.shut v.now)) ≡ NotYet →
-        WorksAt onward stage (make v.client b v.server v.shut v.now) in
-        subst P (sym open_client) (works_by stage v.client v.server v.shut v.now) nothing
+    pub works : (stage : Stage) (v : Sight) → v.closed ≡ false → MayWork terms side stage v → look terms (onward (pass terms stage v).stage) (sight_on onward terms stage v) ≡ NotYet → WorksAt onward stage v
+    works stage v open_client apart nothing =
+        let P : Bool → Type 0 = λ b. MayWork terms side stage (make v.client b v.server v.shut v.told v.now) →
+        look terms (onward (pass terms stage (make v.client b v.server v.shut v.told v.now)).stage) (sight_on onward terms stage (make v.client b v.server v.shut v.told v.now)) ≡ NotYet →
+        WorksAt onward stage (make v.client b v.server v.shut v.told v.now) in
+        subst P (sym open_client) (works_by stage v.client v.server v.shut v.told v.now) apart nothing

@@ -1,17 +1,24 @@
 -- Places that show the same, and a piece that waits: what px_event's laws of walks ask of a conversation.
-use Rattle.std.proofs.Common.{◌≡◌, ℕ, false, List, ◌++◌, map, refl, ap, sym, ◌∙◌}
+use Rattle.std.proofs.Common.{◌≡◌, ℕ, Bool, true, false, ◌==◌, List, ◌++◌, map, refl, ap, sym, ◌∙◌}
 use Rattle.std.proofs.lemmas.List.{map-append}
+use Rattle.std.specs.Prelude.{◌&&◌, ⊤, Option, Some, None}
+use Rattle.px_message.specs.declared.response.Response.{Response}
 use Rattle.px_event.specs.declared.event.Event.{Event}
 use Rattle.px_event.specs.declared.event.Event.TheVariants as events
 use Rattle.px_event.specs.declared.side.Side.{Side}
 use Rattle.px_event.specs.Alike.{Alike, IsLikeness, Unhurried}
 use Rattle.px_event.specs.Chain.{later, Stamp, Stamped, Timed}
 use Rattle.px_event.specs.Laws.{IsFound}
+use Rattle.px_exchange.specs.declared.place.Place.{Place}
 use Rattle.px_exchange.specs.declared.terms.Terms.{Terms}
-use Rattle.px_chain.specs.Chain.{IsOnward, http_chain}
-use Rattle.px_chain.specs.Sights.{Standing}
-use Rattle.px_cuts.specs.Cuts.{AlikeSeen, MayBeHeard, MayStand, MayWaitFor, retimed}
-use Rattle.px_chain.specs.Stages.{Stage, side_of}
+use Rattle.px_chain.specs.Chain.{IsOnward, begins_going, http_chain}
+use Rattle.px_read.specs.Items.{Item, bad_body, complete}
+use Rattle.px_read.specs.Laws.{is_begun}
+use Rattle.px_read.specs.declared.head.RequestHead.{RequestHead}
+use Rattle.px_event.specs.declared.side.Side.TheVariants.{Client, Server}
+use Rattle.px_chain.specs.Sights.{Sight, Standing, answers_in, request_in}
+use Rattle.px_cuts.specs.Cuts.{AlikeSeen, GoesUpApart, MayBeHeard, MayStand, MayWaitFor, retimed}
+use Rattle.px_chain.specs.Stages.{Stage, busy, coming_down, going_up, request_body, response_body, response_head, side_of}
 use Rattle.px_cuts.specs.Shown.{hears, look_over, moment_at, passed_over, retimed_stage, shown_over}
 use Rattle.px_chain.specs.Streams.{client_closed, now_over}
 
@@ -28,11 +35,59 @@ is_like see = record {
 
 -- ---- places that show the same
 
-pub record PlacesAlike (see : ℕ → ℕ) (s : Standing) (f : List (Timed Event)) (t : Standing) (g : List (Timed Event)) : Type 0 where
+pub record PlacesAlike (see : ℕ → ℕ) (terms : Terms) (s : Standing) (f : List (Timed Event)) (t : Standing) (g : List (Timed Event)) : Type 0 where
   pub stages : retimed_stage see s.stage ≡ retimed_stage see t.stage
   pub sights : shown_over see s f ≡ shown_over see t g
-  pub may : MayStand s f
-  pub other_may : MayStand t g
+  pub may : MayStand terms s f
+  pub other_may : MayStand terms t g
+
+-- ---- a piece that waits beside a request that goes up
+
+-- the body of a request is refused
+abbrev pub is_bad : {H : Type 0} → Item H → Bool
+is_bad (bad_body fault head body) = true
+is_bad item = false
+
+-- the body of a response is whole, or refused
+abbrev pub has_ended : {H : Type 0} → Item H → Bool
+has_ended (complete head body trailers size) = true
+has_ended (bad_body fault head body) = true
+has_ended item = false
+
+-- so is one that is streamed; without a response at hand it does not end by being whole
+abbrev pub ends_here : {H : Type 0} → Option Response → Item H → Bool
+ends_here None item = is_bad item
+ends_here (Some response) item = has_ended item
+
+-- One of the client waits where nothing is found of this server's response; and one of a server where the request is not refused, or
+-- where it is another server's.
+abbrev pub IsBeside : Side → ℕ → Item RequestHead → (found : Bool) → Type 0
+IsBeside Client server request found = found ≡ false
+IsBeside (Server number) server request found = (is_bad request && (number == server)) ≡ false
+
+abbrev pub WaitsBeside : Side → Stage → Sight → Type 0
+WaitsBeside side (busy at flow (response_head server going_up)) seen = IsBeside side server (request_in seen) (is_begun (answers_in flow.request seen).final)
+WaitsBeside side (busy at flow (response_body server going_up most)) seen = IsBeside side server (request_in seen) (has_ended (answers_in flow.request seen).final)
+WaitsBeside side (busy at flow (coming_down server going_up)) seen = IsBeside side server (request_in seen) (ends_here flow.response (answers_in flow.request seen).final)
+WaitsBeside side stage seen = ⊤
+
+-- ---- a piece that waits before a request begins to go up
+
+-- A piece of this side may wait from here on: it is the client's, or what a parked side says early meets no request that is streamed.
+pub data MayBeCut (terms : Terms) (side : Side) (stage : Stage) : Type 0 where
+  of_client : side ≡ Client → MayBeCut terms side stage
+  of_apart : GoesUpApart terms stage → MayBeCut terms side stage
+
+-- no request begins to go up here
+abbrev pub NoneBegins : Place → Stage → Sight → Type 0
+NoneBegins place (busy at flow (request_body None most)) seen = begins_going place at flow most seen ≡ false
+NoneBegins place stage seen = ⊤
+
+-- A piece of this side may wait at a place: so it may from there on, or it waits for nothing, and no request begins to go up before it.
+pub data MayWait (see : ℕ → ℕ) (onward : Stage → Stage) (terms : Terms) (side : Side) (s : Standing) (f : List (Timed Event)) : Type 0 where
+  on_from : MayBeCut terms side s.stage → MayWait see onward terms side s f
+  for_nothing : (IsFound (look_over terms (passed_over onward terms s f) f) → ⊥) → NoneBegins terms.place s.stage (shown_over see s f) →
+      MayWait see onward terms side s f
 
 -- ---- a piece that waits behind the one place, and was heard in the other
 
@@ -45,17 +100,19 @@ pub record HeardEarly (see : ℕ → ℕ) (onward : Stage → Stage) (terms : Te
   pub open_client : client_closed f ≡ false
   pub comes : moment_at see s.stage (later last event.stamp).moment ≡ moment_at see s.stage (now_over s.since f)
   -- a server's piece that waits while something is found is none of a server that is dialled later
-  pub heard : IsFound (look_over terms (passed_over onward s f) f) → MayBeHeard side s.stage
-  pub may : MayStand s f
-  pub other_may : MayStand t g
+  pub heard : IsFound (look_over terms (passed_over onward terms s f) f) → MayBeHeard side s.stage
+  pub beside : WaitsBeside side s.stage (shown_over see s f)
+  pub waits : MayWait see onward terms side s f
+  pub may : MayStand terms s f
+  pub other_may : MayStand terms t g
 
 -- ---- what laws of walks ask for
 
 -- Places of a chain that show the same look alike, and a piece that waits may be taken early.
 pub record IsCompared (see : ℕ → ℕ) (onward : Stage → Stage) (terms : Terms) : Type 0 where
-  pub alike : Alike (http_chain onward terms) (AlikeSeen see) (PlacesAlike see)
+  pub alike : Alike (http_chain onward terms) (AlikeSeen see) (PlacesAlike see terms)
   pub unhurried : (event : Stamped Event) →
-      Unhurried (http_chain onward terms) (AlikeSeen see) (PlacesAlike see) (MayWaitFor see event) event (HeardEarly see onward terms event)
+      Unhurried (http_chain onward terms) (AlikeSeen see) (PlacesAlike see terms) (MayWaitFor see event) event (HeardEarly see onward terms event)
 
 -- a chain of one flow or of flows in sequence, on these terms, that is compared so
 pub record Conversation (see : ℕ → ℕ) : Type 0 where

@@ -1,5 +1,5 @@
 -- However the network cuts the bytes into pieces, what is due is the same: the words of these laws.
-use Rattle.std.specs.Prelude.{◌≡◌, ℕ, ◌<◌, ◌≤◌, List, [], ◌∷◌, ◌++◌, map, if◌then◌else◌, Option, Some, None, ⊤}
+use Rattle.std.specs.Prelude.{◌≡◌, ℕ, ◌<◌, ◌≤◌, false, List, [], ◌∷◌, ◌++◌, map, if◌then◌else◌, Option, Some, None, ⊤}
 use Rattle.px_message.specs.declared.flow.Flow.{Flow}
 use Rattle.px_message.specs.declared.flow.FlowError.{FlowError}
 use Rattle.px_event.specs.declared.command.Command.{Command}
@@ -7,12 +7,15 @@ use Rattle.px_event.specs.declared.command.Command.TheVariants as commands
 use Rattle.px_event.specs.declared.event.Event.{Event}
 use Rattle.px_event.specs.declared.event.Event.TheVariants as events
 use Rattle.px_event.specs.declared.reply.Reply.{Reply}
+use Rattle.px_event.specs.declared.reply.Reply.TheVariants as replies
 use Rattle.px_event.specs.declared.side.Side.{Side}
 use Rattle.px_event.specs.declared.side.Side.TheVariants.{Client, Server}
 use Rattle.px_event.specs.Chain.{later, Stamp, Stamped, Timed}
 use Rattle.px_event.specs.Trace.{is_same_side}
+use Rattle.px_exchange.specs.declared.terms.Terms.{Terms}
+use Rattle.px_chain.specs.Chain.{going_at}
 use Rattle.px_chain.specs.Sights.{IsWithin, Standing}
-use Rattle.px_chain.specs.Stages.{Stage, over, place_of, side_of}
+use Rattle.px_chain.specs.Stages.{At, Doing, Parked, Stage, busy, coming_down, idle, next, over, place_of, request_body, response_body, response_head, side_of, upgraded}
 
 -- ---- the moments inside what is owed, each seen through a function
 
@@ -91,9 +94,52 @@ abbrev pub IsDialled : ℕ → Stage → Type 0
 IsDialled server over = ⊤
 IsDialled server stage = server < (place_of stage).dials
 
+-- no size was allowed to the request whose body is awaited
+abbrev pub KeepsRequest : Stage → Type 0
+KeepsRequest (busy at flow (request_body None most)) = most ≡ None
+KeepsRequest stage = ⊤
+
+-- the side that waits there for a flow: where a flow uses a side, none does
+abbrev pub parked_in : At → Doing → Option Parked
+parked_in at (response_head server sent) = None
+parked_in at (response_body server sent most) = None
+parked_in at (coming_down server sent) = None
+parked_in at (upgraded server) = None
+parked_in at doing = at.parked
+
+abbrev pub parked_at : Stage → Option Parked
+parked_at (idle at) = at.parked
+parked_at (busy at flow doing) = parked_in at doing
+parked_at (next at) = at.parked
+parked_at over = None
+
+-- From here on no request that is streamed goes to a side that was parked before: none is parked, or no request is streamed.
+pub data GoesUpApart (terms : Terms) (stage : Stage) : Type 0 where
+  none_parked : parked_at stage ≡ None → GoesUpApart terms stage
+  none_streamed : terms.streams ≡ false → KeepsRequest stage → GoesUpApart terms stage
+
+-- the reply allows no size
+abbrev pub AllowsNoSize : Reply → Type 0
+AllowsNoSize (replies.Go flow most) = most ≡ None
+AllowsNoSize reply = ⊤
+
+-- none of them does
+abbrev pub AllowNoSize : List (Stamped Reply) → Type 0
+AllowNoSize [] = ⊤
+AllowNoSize (r ∷ rs) = AllowsNoSize r.value × AllowNoSize rs
+
+-- where nothing is streamed
+abbrev pub all_kept : Terms → Terms
+all_kept terms = record terms { streams = false }
+
+-- no request goes up here
+abbrev pub NoneGoesUp : Stage → Type 0
+NoneGoesUp (busy at flow doing) = going_at doing ≡ None
+NoneGoesUp stage = ⊤
+
 -- A place that may stand over this prefix: it stands since an event of it, and so does its server's side, whose dial is
 -- counted. Over no events it is one that counts none, as each at which a conversation begins.
-pub record MayStand (place : Standing) (prefix : List (Timed Event)) : Type 0 where
+pub record MayStand (terms : Terms) (place : Standing) (prefix : List (Timed Event)) : Type 0 where
   pub within : IsWithin place prefix
   pub dialled : DialledBefore (side_of place.stage) (place_of place.stage).dials
 

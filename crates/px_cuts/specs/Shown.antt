@@ -39,8 +39,8 @@ hears side seen event = sight_with side seen event seen.now
 abbrev pub look_over : Terms → Standing → List (Timed Event) → Look Command
 look_over terms place prefix = look terms place.stage (sight_over place prefix)
 
-abbrev pub so_far_over : Standing → List (Timed Event) → List Command
-so_far_over place prefix = so_far place.stage (sight_over place prefix)
+abbrev pub so_far_over : Terms → Standing → List (Timed Event) → List Command
+so_far_over terms place prefix = so_far terms place.stage (sight_over place prefix)
 
 abbrev pub behind_over : Standing → List (Timed Event) → List Command
 behind_over place prefix = behind place.stage (sight_over place prefix)
@@ -49,5 +49,5 @@ behind_over place prefix = behind place.stage (sight_over place prefix)
 abbrev pub shown_over : (ℕ → ℕ) → Standing → List (Timed Event) → Sight
 shown_over see place prefix = shown_sight see place.stage (sight_over place prefix)
 
-abbrev pub passed_over : (Stage → Stage) → Standing → List (Timed Event) → Standing
-passed_over onward place prefix = passed onward place (sight_over place prefix)
+abbrev pub passed_over : (Stage → Stage) → Terms → Standing → List (Timed Event) → Standing
+passed_over onward terms place prefix = passed onward terms place (sight_over place prefix)

@@ -33,7 +33,7 @@ impl Compared for Exactly {
 
     ghost is_like = { is_like as_it_is };
 
-    ghost same = { λ given. PlacesAlike as_it_is };
+    ghost same = { λ given. PlacesAlike as_it_is given.terms };
 
     ghost alike = { λ given. given.compared.alike };
 
@@ -57,7 +57,7 @@ impl Compared for AtAnyMoments {
 
     ghost is_like = { is_like no_moment };
 
-    ghost same = { λ given. PlacesAlike no_moment };
+    ghost same = { λ given. PlacesAlike no_moment given.terms };
 
     ghost alike = { λ given. given.compared.alike };
 
@@ -77,10 +77,10 @@ pub fn conversations_are_compared()
 /// Conversations owe the same that start at places that show the same: as it is, or but for the moments inside flows.
 pub fn alike_starts_owe_the_same()
     ensures exactly { (onward : Stage → Stage) (made : Made) (start other : Standing) (events : List (Stamped Heard)) (replies : List (Stamped Answer)) → IsOnward onward →
-        PlacesAlike as_it_is start [] other [] →
+        PlacesAlike as_it_is made start [] other [] →
         AlikeSeen as_it_is (due (http_chain onward made) start events replies) (due (http_chain onward made) other events replies) }
     ensures at_any_moments { (onward : Stage → Stage) (made : Made) (start other : Standing) (events : List (Stamped Heard)) (replies : List (Stamped Answer)) → IsOnward onward →
-        PlacesAlike no_moment start [] other [] →
+        PlacesAlike no_moment made start [] other [] →
         EqualButForMoments (due (http_chain onward made) start events replies) (due (http_chain onward made) other events replies) }
 {
     alike_places_owe_alike::<Exactly>();

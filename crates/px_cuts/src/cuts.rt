@@ -6,6 +6,15 @@
 //! a piece may have another moment than the whole had, where a reply in between came before both. In a run none did: a
 //! reply that was there was used before the next piece came. With no premise on steps it is the same but for the moments
 //! inside flows.
+//!
+//! A request that is streamed is sent on before it is whole, so of two bytes that come at once, one of the client and one of a server, the
+//! first may decide. Neighbouring pieces of two sides may be swapped where no request goes up: beside one that does, a refused chunk of the
+//! client before a response is an error text, and behind that response it is nothing. And none may go to a side that was parked
+//! (`GoesUpApart`): one of which something was seen meets the whole request alone. A place without a parked side is such a place, and so is one
+//! in a conversation that streams nothing, be it since no reply allows a size (`kept_conversations_owe_the_same`).
+//!
+//! A cut of one side's bytes never shows. Nothing of a parked side is awaited, so the second half of a piece of it is heard where the first was,
+//! and no request begins to go up in between.
 ghost use Rattle.std.specs.Prelude.{◌≡◌, ℕ, false, List, [], ◌∷◌, ◌++◌, map};
 ghost use Rattle.std.specs.List.{flat_map};
 ghost use Rattle.px_event.specs.Alike.{MayCome};
@@ -15,16 +24,16 @@ ghost use Rattle.px_event.specs.declared.event.Event.{Event as Heard};
 ghost use Rattle.px_event.specs.declared.reply.Reply.{Reply as Answer};
 ghost use Rattle.px_event.specs.declared.side.Side.{Side as Peer};
 ghost use Rattle.px_chain.specs.Chain.{begin, http_chain, IsOnward};
-ghost use Rattle.px_cuts.specs.Cuts.{as_piece, EqualButForMoments, IsNoEarlier, MayBeHeard, MayStand, SameStreams, piece_at, values_of};
+ghost use Rattle.px_cuts.specs.Cuts.{AllowNoSize, all_kept, as_piece, EqualButForMoments, GoesUpApart, IsNoEarlier, MayBeHeard, MayStand, NoneGoesUp, SameStreams, piece_at, values_of};
 ghost use Rattle.px_chain.specs.Sights.{Standing};
 ghost use Rattle.px_chain.specs.Silent.{ParkedBelow};
 ghost use Rattle.px_chain.specs.Stages.{At, Stage, idle};
 ghost use Rattle.px_exchange.specs.declared.terms.Terms.{Terms as Made};
 
-/// A conversation may begin, over no events, without a parked side, or with one whose server was connected before and so counts
+/// A conversation may begin, over no events, without a parked side; or with one whose server was connected before and so counts
 /// among those that were dialled.
 pub fn conversations_may_begin()
-    ensures { (at : At) → ParkedBelow at.parked at.dials → MayStand (begin (idle at)) [] }
+    ensures { (made : Made) (at : At) → ParkedBelow at.parked at.dials → MayStand made (begin (idle at)) [] }
 {}
 
 /// However the network cuts the bytes of a side into pieces, and in whatever steps they come, what is due is the same but
@@ -32,7 +41,7 @@ pub fn conversations_may_begin()
 /// the same in the same order.
 pub fn same_streams_owe_the_same()
     ensures { (onward : Stage → Stage) (made : Made) (start : Standing) (these those : List (Stamped Heard)) (replies answers : List (Stamped Answer)) →
-        IsOnward onward → MayStand start [] → SameStreams these those → values_of replies ≡ values_of answers →
+        IsOnward onward → MayStand made start [] → SameStreams these those → values_of replies ≡ values_of answers →
         EqualButForMoments (due (http_chain onward made) start these replies) (due (http_chain onward made) start those answers) }
 {}
 
@@ -40,12 +49,12 @@ pub fn same_streams_owe_the_same()
 /// moments inside flows.
 pub fn cut_pieces_owe_the_same()
     ensures exactly { (onward : Stage → Stage) (made : Made) (start : Standing) (before after : List (Stamped Heard)) (replies : List (Stamped Answer))
-        (stamp : Stamp) (side : Peer) (bytes more : List ℕ) → IsOnward onward → MayStand start [] →
+        (stamp : Stamp) (side : Peer) (bytes more : List ℕ) → IsOnward onward → MayStand made start [] →
         MayCome (IsNoEarlier stamp) (walk_from (http_chain onward made) start before replies).unused →
         due (http_chain onward made) start (before ++ piece_at stamp side bytes ∷ piece_at stamp side more ∷ after) replies
         ≡ due (http_chain onward made) start (before ++ piece_at stamp side (bytes ++ more) ∷ after) replies }
     ensures at_any_moments { (onward : Stage → Stage) (made : Made) (start : Standing) (before after : List (Stamped Heard)) (replies : List (Stamped Answer))
-        (stamp first second : Stamp) (side : Peer) (bytes more : List ℕ) → IsOnward onward → MayStand start [] →
+        (stamp first second : Stamp) (side : Peer) (bytes more : List ℕ) → IsOnward onward → MayStand made start [] →
         EqualButForMoments (due (http_chain onward made) start (before ++ piece_at first side bytes ∷ piece_at second side more ∷ after) replies)
         (due (http_chain onward made) start (before ++ piece_at stamp side (bytes ++ more) ∷ after) replies) }
 {}
@@ -54,32 +63,43 @@ pub fn cut_pieces_owe_the_same()
 /// exactly, and in any steps but for the moments inside flows.
 pub fn joined_pieces_owe_the_same()
     ensures exactly { (onward : Stage → Stage) (made : Made) (start : Standing) (before after : List (Stamped Heard)) (replies : List (Stamped Answer))
-        (stamp : Stamp) (side : Peer) (first : List ℕ) (rest : List (List ℕ)) → IsOnward onward → MayStand start [] →
+        (stamp : Stamp) (side : Peer) (first : List ℕ) (rest : List (List ℕ)) → IsOnward onward → MayStand made start [] →
         MayCome (IsNoEarlier stamp) (walk_from (http_chain onward made) start before replies).unused →
         due (http_chain onward made) start (before ++ (map (piece_at stamp side) (first ∷ rest) ++ after)) replies
         ≡ due (http_chain onward made) start (before ++ piece_at stamp side (flat_map (λ bytes. bytes) (first ∷ rest)) ∷ after) replies }
     ensures at_any_moments { (onward : Stage → Stage) (made : Made) (start : Standing) (before after : List (Stamped Heard)) (replies : List (Stamped Answer))
-        (stamp : Stamp) (side : Peer) (first : Stamped (List ℕ)) (rest : List (Stamped (List ℕ))) → IsOnward onward → MayStand start [] →
+        (stamp : Stamp) (side : Peer) (first : Stamped (List ℕ)) (rest : List (Stamped (List ℕ))) → IsOnward onward → MayStand made start [] →
         EqualButForMoments (due (http_chain onward made) start (before ++ (map (as_piece side) (first ∷ rest) ++ after)) replies)
         (due (http_chain onward made) start (before ++ piece_at stamp side (flat_map (λ bytes. bytes.value) (first ∷ rest)) ∷ after) replies) }
 {}
 
-/// Neighbouring pieces of two sides the other way round change nothing of what is due, in one step exactly, and in any
-/// steps but for the moments inside flows. Both sides may be heard by then: a side is the client's, or that of a server that
+/// Neighbouring pieces of two sides the other way round change nothing of what is due where no request goes up, nor can to a parked side, in one step exactly, and in
+/// any steps but for the moments inside flows. Both sides may be heard by then: a side is the client's, or that of a server that
 /// was dialled, as a parked side's was. In a run that is so: a server is heard once it is connected. Before its dial its bytes
 /// are not heard at all.
 pub fn swapped_pieces_owe_the_same()
     ensures exactly { (onward : Stage → Stage) (made : Made) (start : Standing) (before after : List (Stamped Heard)) (replies : List (Stamped Answer))
-        (stamp : Stamp) (side other : Peer) (bytes more : List ℕ) → IsOnward onward → MayStand start [] → is_same_side side other ≡ false →
+        (stamp : Stamp) (side other : Peer) (bytes more : List ℕ) → IsOnward onward → MayStand made start [] → is_same_side side other ≡ false →
+        GoesUpApart made (walk_from (http_chain onward made) start before replies).stage.stage →
+        NoneGoesUp (walk_from (http_chain onward made) start before replies).stage.stage →
         MayBeHeard side (walk_from (http_chain onward made) start before replies).stage.stage →
         MayBeHeard other (walk_from (http_chain onward made) start before replies).stage.stage →
         MayCome (IsNoEarlier stamp) (walk_from (http_chain onward made) start before replies).unused →
         due (http_chain onward made) start (before ++ piece_at stamp side bytes ∷ piece_at stamp other more ∷ after) replies
         ≡ due (http_chain onward made) start (before ++ piece_at stamp other more ∷ piece_at stamp side bytes ∷ after) replies }
     ensures at_any_moments { (onward : Stage → Stage) (made : Made) (start : Standing) (before after : List (Stamped Heard)) (replies : List (Stamped Answer))
-        (first second : Stamp) (side other : Peer) (bytes more : List ℕ) → IsOnward onward → MayStand start [] → is_same_side side other ≡ false →
+        (first second : Stamp) (side other : Peer) (bytes more : List ℕ) → IsOnward onward → MayStand made start [] → is_same_side side other ≡ false →
+        GoesUpApart made (walk_from (http_chain onward made) start before replies).stage.stage →
+        NoneGoesUp (walk_from (http_chain onward made) start before replies).stage.stage →
         MayBeHeard side (walk_from (http_chain onward made) start before replies).stage.stage →
         MayBeHeard other (walk_from (http_chain onward made) start before replies).stage.stage →
         EqualButForMoments (due (http_chain onward made) start (before ++ piece_at first side bytes ∷ piece_at second other more ∷ after) replies)
         (due (http_chain onward made) start (before ++ piece_at second other more ∷ piece_at first side bytes ∷ after) replies) }
+{}
+
+/// Where no reply allows a size, what is due is what is due where nothing is streamed. So these laws hold of such a conversation as well
+/// where it begins with a parked side.
+pub fn kept_conversations_owe_the_same()
+    ensures { (onward : Stage → Stage) (made : Made) (start : Standing) (events : List (Stamped Heard)) (replies : List (Stamped Answer)) → AllowNoSize replies →
+        due (http_chain onward made) start events replies ≡ due (http_chain onward (all_kept made)) start events replies }
 {}

@@ -11,6 +11,9 @@
 //! same (`compared`), and a piece that waits changes nothing that is found without it. The bytes of a parked side are shown from the
 //! first one on, before a flow uses the side. So a piece of that side is told the same whether it came before the request that takes
 //! the side or behind it, and a dial, which closes that side, forgets it in either case.
+//!
+//! How much of a request that goes up was told before is of what a place shows. It is told with an ask, and none is found while a piece of the
+//! client waits beside such a request: so two walks of the same bytes tell as much with each ask (`specs/Alike.antt`, `WaitsBeside`).
 #![tactic(auto)]
 
 mod compared;

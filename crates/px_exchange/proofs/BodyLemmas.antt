@@ -130,6 +130,7 @@ behind_whole trailers message told fed closed state reads is = (
       ∙ ap (λ n. let r : Reading = record { marks = told; finish = whole trailers n } in r) (omega arith)),
   sym (drop-append_seam reads.used state.rest) ∙ ap (λ l. drop (length reads.used) l) (sym reads.bytes),
   (let e = ap length reads.bytes in let s = length-append reads.used state.rest in omega arith),
+  is,
 )
 
 pub ends_whole : (trailers : List (List ℕ × List ℕ)) (old now new : State) (content longer : List ℕ) → Collects old content now longer → Gives [] now new →

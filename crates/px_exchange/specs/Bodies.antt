@@ -4,7 +4,7 @@ use Rattle.std.specs.List.{flat_map}
 use Rattle.px_read.specs.Chunks.{Reading, goes_on, whole, fails}
 use Rattle.px_read.specs.Items.{content_in}
 use Rattle.px_read.specs.Marks.{Mark}
-use Rattle.px_read.specs.Reader.{Message, reading_of, State, Reads}
+use Rattle.px_read.specs.Reader.{Message, reading_of, State, behind_end, Reads}
 use Rattle.px_read.specs.declared.part.Part.{Part}
 use Rattle.px_read.specs.declared.part.Part.TheVariants as part
 use Rattle.px_exchange.specs.declared.body.Progress.{Progress}
@@ -29,11 +29,11 @@ pub record Collects (old : State) (content : List ℕ) (new : State) (longer : L
   pub reads : (message : Message) (told : List Mark) (fed : List ℕ) (closed : Bool) → Reads message told fed closed old →
       Reads message (told ++ marks) fed closed new
 
--- how the message stands, of which all these marks were given; behind a whole one the reader keeps what stands behind it
+-- how the message stands, of which all these marks were given; the reader stands behind a whole one, and keeps what follows it
 abbrev pub HasCome : Progress → Reading → List Mark → List ℕ → State → Type 0
 HasCome progress.Missing reading all fed state = reading ≡ record { marks = all; finish = goes_on }
 HasCome (progress.Whole trailers) reading all fed state =
-    (used : ℕ) × (reading ≡ record { marks = all; finish = whole trailers used }) × (state.rest ≡ drop used fed) × (used ≤ length fed)
+    (used : ℕ) × (reading ≡ record { marks = all; finish = whole trailers used }) × (state.rest ≡ drop used fed) × (used ≤ length fed) × (state.place ≡ behind_end trailers)
 HasCome (progress.Bad fault) reading all fed state = reading ≡ record { marks = all; finish = fails fault }
 
 pub record HasRead (got : Progress) (old : State) (content : List ℕ) (new : State) (longer : List ℕ) : Type 0 where

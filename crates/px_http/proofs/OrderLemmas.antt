@@ -169,8 +169,8 @@ module _ (here : ℕ) (owed : List Command) where
 
     leads_past : (stage : Stage) → IsBehind here dials count stage → IsOf terms (HasIndex here) stage → EndsNone stage owed → LeadsPast here owed (sequence stage)
     leads_past (idle at) behind is none = absurd behind
-    leads_past (busy at flow (request_body given)) behind is none = goes_on at flow (request_body given) behind.0.0 is none
-    leads_past (busy at flow connection) behind is none = goes_on at flow connection behind.0.0 is none
+    leads_past (busy at flow (request_body given most)) behind is none = goes_on at flow (request_body given most) behind.0.0 is none
+    leads_past (busy at flow (connection how)) behind is none = goes_on at flow (connection how) behind.0.0 is none
     leads_past (busy at flow (response_head side how)) behind is none = goes_on at flow (response_head side how) behind.0.0 is none
     leads_past (busy at flow (response_body side how most)) behind is none = goes_on at flow (response_body side how most) behind.0.0 is none
     leads_past (busy at flow (coming_down side how)) behind is none = goes_on at flow (coming_down side how) behind.0.0 is none
@@ -192,25 +192,25 @@ module _ (terms : Terms) where
 
   asked_leaves : (stage : Stage) (seen : Sight) (ask : Command) (reply : Timed Reply) → IsGoing stage →
       ((index : ℕ) → is_past stage index ≡ nat_lt index (place_of stage).flow) → IsOf terms (HasIndex (place_of stage).flow) stage → look terms stage seen ≡ Asks ask →
-      Leaves stage (so_far stage seen ++ ask ∷ (behind stage seen ++ (turn terms stage seen reply).owed)) (sequence (turn terms stage seen reply).stage)
+      Leaves stage (so_far terms stage seen ++ ask ∷ (behind stage seen ++ (turn terms stage seen reply).owed)) (sequence (turn terms stage seen reply).stage)
   asked_leaves stage seen ask reply goes past is asked =
       let here : ℕ = (place_of stage).flow in
       let owed : List Command = (turn terms stage seen reply).owed in
       let led = turn_led terms (HasIndex here) stage seen reply goes is in
       let on = leads_past here owed terms (place_of stage).dials (stage_left stage) led.quiet (turn terms stage seen reply).stage led.behind led.is_of led.ends_none in
-      let said : AllQuiet no_flow (so_far stage seen) = so_far_quiet no_flow stage seen in
+      let said : AllQuiet no_flow (so_far terms stage seen) = so_far_quiet no_flow terms stage seen in
       let shut : AllQuiet no_flow (behind stage seen) = behind_quiet no_flow stage seen in
       let longer : List Command = behind stage seen ++ owed in
       let P : Look Command → Type 0 = LooksQuiet (HasIndex here) in
       let asks_own : IsAskOf (HasIndex here) ask = subst P asked (looks_quiet (HasIndex here) terms stage seen is) in
       record {
-        ordered = ordered_behind (so_far stage seen) (ask ∷ longer) said
+        ordered = ordered_behind (so_far terms stage seen) (ask ∷ longer) said
             (ask_ordered here ask longer asks_own (ordered_behind (behind stage seen) owed shut (quiet_ordered (HasIndex here) owed led.quiet)));
-        asks_none = λ index before. none_behind index (so_far stage seen) (ask ∷ longer) said
+        asks_none = λ index before. none_behind index (so_far terms stage seen) (ask ∷ longer) said
             (ask_none index here ask longer asks_own (ltb-true index here (sym (past index) ∙ before))
             (none_behind index (behind stage seen) owed shut (quiet_none (HasIndex here) index owed led.quiet)));
         ends = λ index ends. on.ends index
-            (ends_behind index (behind stage seen) owed shut (ask_ends index here ask longer asks_own (ends_behind index (so_far stage seen) (ask ∷ longer) said ends)));
+            (ends_behind index (behind stage seen) owed shut (ask_ends index here ask longer asks_own (ends_behind index (so_far terms stage seen) (ask ∷ longer) said ends)));
         keeps = λ index before. on.later index (sym (past index) ∙ before);
         leads = on.counted;
       }
@@ -219,7 +219,7 @@ module _ (terms : Terms) where
   no_ask closed ask is = let e : Ends [] ≡ Asks ask = is in cc
 
   turns : (stage : Stage) (seen : Sight) (ask : Command) → is_counted stage ≡ true → look terms stage seen ≡ Asks ask → (reply : Timed Reply) →
-      Leaves stage (so_far stage seen ++ ask ∷ (behind stage seen ++ (turn terms stage seen reply).owed)) (sequence (turn terms stage seen reply).stage)
+      Leaves stage (so_far terms stage seen ++ ask ∷ (behind stage seen ++ (turn terms stage seen reply).owed)) (sequence (turn terms stage seen reply).stage)
   turns (idle at) seen ask is asked reply = asked_leaves (idle at) seen ask reply tt (λ index. refl) refl asked
   turns (busy at flow doing) seen ask is asked reply = asked_leaves (busy at flow doing) seen ask reply tt (λ index. refl) (eqb-true flow.id.index at.flow is) asked
   turns (next at) seen ask is asked reply = absurd (no_ask seen.closed ask asked)
@@ -234,17 +234,17 @@ module _ (terms : Terms) where
   stops_by here shut (Ends owed) quiet is = (quiet_ordered (HasIndex here) owed is, λ index less. quiet_none (HasIndex here) index owed is)
 
   stops_there : (stage : Stage) (seen : Sight) → ((index : ℕ) → is_past stage index ≡ nat_lt index (place_of stage).flow) →
-      IsOf terms (HasIndex (place_of stage).flow) stage → LeavesNone is_past stage (so_far stage seen ++ found_with (behind stage seen) (look terms stage seen))
+      IsOf terms (HasIndex (place_of stage).flow) stage → LeavesNone is_past stage (so_far terms stage seen ++ found_with (behind stage seen) (look terms stage seen))
   stops_there stage seen past is =
       let here : ℕ = (place_of stage).flow in
       let both = stops_by here (behind stage seen) (look terms stage seen) (behind_quiet no_flow stage seen) (looks_quiet (HasIndex here) terms stage seen is) in
       record {
-        ordered = ordered_behind (so_far stage seen) _ (so_far_quiet no_flow stage seen) both.0;
-        asks_none = λ index before. none_behind index (so_far stage seen) _ (so_far_quiet no_flow stage seen)
+        ordered = ordered_behind (so_far terms stage seen) _ (so_far_quiet no_flow terms stage seen) both.0;
+        asks_none = λ index before. none_behind index (so_far terms stage seen) _ (so_far_quiet no_flow terms stage seen)
             (both.1 index (ltb-true index here (sym (past index) ∙ before)));
       }
 
-  stops : (stage : Stage) (seen : Sight) → is_counted stage ≡ true → LeavesNone is_past stage (so_far stage seen ++ found_with (behind stage seen) (look terms stage seen))
+  stops : (stage : Stage) (seen : Sight) → is_counted stage ≡ true → LeavesNone is_past stage (so_far terms stage seen ++ found_with (behind stage seen) (look terms stage seen))
   stops (idle at) seen is = stops_there (idle at) seen (λ index. refl) refl
   stops (busy at flow doing) seen is = stops_there (busy at flow doing) seen (λ index. refl) (eqb-true flow.id.index at.flow is)
   stops (next at) seen is = stops_there (next at) seen (λ index. refl) tt
@@ -254,10 +254,10 @@ module _ (terms : Terms) where
   stays : (stage : Stage) → is_counted (sequence stage) ≡ true → ((index : ℕ) → is_past stage index ≡ true → is_past (sequence stage) index ≡ true) → Leaves stage [] (sequence stage)
   stays stage is keeps = record { ordered = tt; asks_none = λ index before. tt; ends = λ index ends. absurd ends; keeps = keeps; leads = is }
 
-  passes : (stage : Stage) (seen : Sight) → is_counted stage ≡ true → Leaves stage (pass stage seen).owed (sequence (pass stage seen).stage)
+  passes : (stage : Stage) (seen : Sight) → is_counted stage ≡ true → Leaves stage (pass terms stage seen).owed (sequence (pass terms stage seen).stage)
   passes (idle at) seen is = stays (idle at) is (λ index before. before)
   passes (busy at flow doing) seen is =
-      let there = pass (busy at flow doing) seen in
+      let there = pass terms (busy at flow doing) seen in
       let led = pass_led terms (HasIndex at.flow) at flow doing seen (eqb-true flow.id.index at.flow is) in
       let on = leads_past at.flow there.owed terms at.dials (doing_left doing + 1) led.quiet there.stage led.behind led.is_of led.ends_none in
       record {

@@ -71,12 +71,12 @@ turned terms over seen answer is = (tt, tt)
 pub stays : (terms : Terms) → StaysNamed terms.conv (http_chain sequence terms) (IsOfIts terms)
 stays terms = record {
   pass = λ place prefix is.
-      let passed = pass_on place.stage (sight_over place prefix) in (
+      let passed = pass_on terms place.stage (sight_over place prefix) in (
         quiet_named terms.conv passed.owed (pass_quiet terms (OfConversation terms.conv) place.stage (sight_over place prefix) is),
         onward_of terms passed.stage (pass_of terms (OfConversation terms.conv) place.stage (sight_over place prefix) is),
       );
   look = λ place prefix is. look_named terms.conv (look terms place.stage (sight_over place prefix)) (looks_quiet (OfConversation terms.conv) terms place.stage (sight_over place prefix) is);
-  so_far = λ place prefix is. quiet_named terms.conv (so_far place.stage (sight_over place prefix)) (so_far_quiet (OfConversation terms.conv) place.stage (sight_over place prefix));
+  so_far = λ place prefix is. quiet_named terms.conv (so_far terms place.stage (sight_over place prefix)) (so_far_quiet (OfConversation terms.conv) terms place.stage (sight_over place prefix));
   behind = λ place prefix is. quiet_named terms.conv (behind place.stage (sight_over place prefix)) (behind_quiet (OfConversation terms.conv) place.stage (sight_over place prefix));
   turn = λ place prefix answer is.
       let turn_there = turn terms place.stage (sight_over place prefix) answer in

@@ -1,14 +1,18 @@
 //! A conversation: one flow after the other.
-ghost use Rattle.std.specs.Prelude.{◌≡◌, ◌≤◌, ◌<◌, ◌+◌, List, [], None, IfOk, OnOk, option_map};
+ghost use Rattle.std.specs.Prelude.{◌≡◌, ◌≤◌, ◌<◌, ◌+◌, ◌-◌, ◌^◌, List, [], None, IfOk, OnOk, min, option_map, true};
+ghost use Rattle.px_event.specs.Chain.{Timed};
 ghost use Rattle.px_event.specs.Layer.{AsksOnly, MayAnswer, Move};
 ghost use Rattle.px_event.specs.declared.command.Command.{Command as GivenCommand};
+ghost use Rattle.px_event.specs.declared.event.Event.{Event as Heard};
 ghost use Rattle.px_http.specs.Stands.{HttpStands, awaits, seen_at, stage_at};
 ghost use Rattle.px_chain.specs.Chain.{look, parked_of};
 ghost use Rattle.px_exchange.specs.Places.{terms_of};
+ghost use Rattle.px_exchange.specs.declared.terms.Terms.{Terms as Made};
+ghost use Rattle.px_chain.specs.Sights.{Standing};
 ghost use Rattle.px_stream.specs.Anywhere.{Begins, HearsWaiting, IsNew, Reaches, ResumesAnywhere, Somewhere, TakesAnywhere};
 ghost use Rattle.px_stream.specs.Rests.{LeavesRests};
-ghost use Rattle.px_stream.specs.Stands.{is_last};
-ghost use Rattle.px_stream.specs.Tells.{IsDialling, IsSideBelow, asked_tunnel, dialled_flow, is_end, led_to, open_parked, outcome_at, outcome_in, phase_flow, sequence_left, side_rest, upgraded_side, uses_side};
+ghost use Rattle.px_stream.specs.Stands.{IsAt, is_last};
+ghost use Rattle.px_stream.specs.Tells.{IsDialling, KeepsLittle, keeps_no_body, stream_keeps, IsSideBelow, asked_tunnel, dialled_flow, is_end, led_to, open_parked, outcome_at, outcome_in, phase_flow, sequence_left, side_rest, upgraded_side, uses_side};
 
 use px_event::{Ask, Command, Event, Layer, Reply, Rests};
 use px_exchange::Boxed;
@@ -259,7 +263,11 @@ impl Layer for HttpConv {
         self.stream.waiting()
     }
 
-    fn kept(&self) -> usize {
+    fn kept(&self) -> usize
+        ensures kept { result ≡ min (stream_keeps self.now.stream) (2 ^ 64 - 1) }
+        ensures there { (made : Made) (place : Standing) (prefix : List (Timed Heard)) → IsAt made self.now.stream place prefix → keeps_no_body self.now.stream.phase ≡ true → KeepsLittle self.now.stream }
+        ensures bound { (made : HttpConv) (moves : List Move) (given : List GivenCommand) → HttpStands made self.now moves given → keeps_no_body self.now.stream.phase ≡ true → KeepsLittle self.now.stream }
+    {
         self.stream.kept()
     }
 

@@ -1,5 +1,5 @@
 -- A reader of a chunked body as its callers see it.
-use Rattle.std.specs.Prelude.{ℕ, List, length}
+use Rattle.std.specs.Prelude.{ℕ, ◌<◌, List, length, ⊤}
 use Rattle.px_read.specs.Kept.{fields_keep}
 use Rattle.px_read.specs.Chunks.{ChunkPlace, in_line, in_content, at_cr, at_lf, in_trailers, broken}
 
@@ -25,3 +25,12 @@ abbrev pub chunking_keeps : Chunking → ℕ
 chunking_keeps (reads place) = place_keeps place
 chunking_keeps (ended trailers) = fields_keep trailers
 chunking_keeps refused = 0
+
+-- a chunk line that has begun has room for one byte more
+abbrev pub LineHasRoom : ChunkPlace → Type 0
+LineHasRoom (in_line line) = length line < 1024
+LineHasRoom place = ⊤
+
+abbrev pub ChunkingHasRoom : Chunking → Type 0
+ChunkingHasRoom (reads place) = LineHasRoom place
+ChunkingHasRoom chunking = ⊤

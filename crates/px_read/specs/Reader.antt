@@ -5,7 +5,7 @@ use Rattle.std.specs.Prelude.{◌≡◌, ℕ, ◌+◌, ◌<◌, Bool, true, fals
 use Rattle.px_text.specs.Prefix.{IsPrefixOf}
 use Rattle.px_message.specs.declared.fault.Fault.{Fault}
 use Rattle.px_read.specs.Marks.{BeginsWithNoByte, Mark, marks_of}
-use Rattle.px_read.specs.Chunking.{place_keeps}
+use Rattle.px_read.specs.Chunking.{LineHasRoom, place_keeps}
 use Rattle.px_read.specs.Kept.{fields_keep}
 use Rattle.px_read.specs.Chunks.{ChunkPlace, goes_on, whole, fails, Reading, chunks_from}
 use Rattle.px_read.specs.Readings.{only, behind_bytes, counted_reading, closing_reading, as_response, request_reading, response_reading}
@@ -177,3 +177,8 @@ rest_keeps (refused fault) rest = length rest
 -- how many bytes a reader keeps
 abbrev pub keeps : State → ℕ
 keeps state = place_of_message_keeps state.place + rest_keeps state.place state.rest
+
+-- a chunk line that has begun has room for one byte more
+abbrev pub HasRoom : MessagePlace → Type 0
+HasRoom (in_chunks side place) = LineHasRoom place
+HasRoom place = ⊤

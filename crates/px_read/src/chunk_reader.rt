@@ -91,7 +91,7 @@ impl Model for ChunkReader {
 impl ChunkReader {
     ghost use Rattle.px_text.specs.Prefix.{IsPrefixOf};
     ghost use Rattle.px_read.specs.Chunks.{in_line};
-    ghost use Rattle.px_read.specs.Chunking.{chunking_keeps, reads};
+    ghost use Rattle.px_read.specs.Chunking.{ChunkingHasRoom, chunking_keeps, reads};
     ghost use Rattle.px_read.specs.ChunkSteps.{Added, IsOpen, Steps, UnlessNoMemory, after_feed, feed_answer};
     ghost use Rattle.px_read.specs.ChunkTurns.{IsGoing, Moves};
 
@@ -108,7 +108,8 @@ impl ChunkReader {
     /// How many bytes it keeps, or 2^64 - 1 where that is more: those of a chunk line or of trailers that have begun, or of
     /// the trailers with which the body ended.
     pub fn kept(&self) -> usize
-        ensures { result ≡ min (chunking_keeps self.now) (2 ^ 64 - 1) }
+        ensures kept { result ≡ min (chunking_keeps self.now) (2 ^ 64 - 1) }
+        ensures room { ChunkingHasRoom self.now }
     {
         match &self.stage {
             ChunkStage::Line => self.line.len(),

@@ -5,7 +5,7 @@
 //! (`specs/Reader.antt`, `Reads`): each call keeps this, so it holds for every cut.
 ghost use Rattle.std.specs.Prelude.{◌≡◌, ℕ, ◌-◌, ◌^◌, ◌++◌, min, Bool, true, false, List, [], IfOk, OnOk};
 ghost use Rattle.px_read.specs.Marks.{Mark, marks_of};
-ghost use Rattle.px_read.specs.Reader.{Message, request, response, Reads, IsLongest, is_clients, opened, IsNext, HasStopped, has_stopped, keeps, to_come, before_all};
+ghost use Rattle.px_read.specs.Reader.{Message, request, response, Reads, IsLongest, is_clients, opened, IsNext, HasStopped, has_stopped, keeps, to_come, before_all, behind_end, HasRoom};
 
 mod body;
 mod head;
@@ -16,7 +16,7 @@ use crate::Part;
 use crate::kept::fields_kept;
 use pending::Pending;
 use px_head::HeadReader;
-use px_message::Fault;
+use px_message::{Fault, Fields};
 use px_text::{Bytes, NoMemory};
 use stage::{MessageStage, take_turn};
 use std::alloc::Global;
@@ -78,6 +78,18 @@ impl MessageReader {
         }
     }
 
+    /// A reader behind a whole message that others have read, without trailers: what it is fed waits, and it keeps nothing.
+    pub fn behind(alloc: Global) -> MessageReader
+        ensures { result ≡ record { place = behind_end []; rest = []; closed = false } }
+    {
+        MessageReader {
+            alloc,
+            stage: MessageStage::Ended(Fields::new(alloc)),
+            rest: Pending::new(Bytes::empty()),
+            closed: false,
+        }
+    }
+
     /// Adds a piece of the sender's bytes behind those that came before. None comes behind a server's close; a client's changes
     /// nothing, so of a request they may.
     pub fn feed(&mut self, bytes: &Bytes) -> Result<(), NoMemory>
@@ -133,7 +145,8 @@ impl MessageReader {
     /// message ends, because a head or a chunked body goes on, all that was fed and not used counts; so where bytes behind the
     /// message came together with it, they count until `next` has told `End`.
     pub fn kept(&self) -> usize
-        ensures { result ≡ min (keeps self.now) (2 ^ 64 - 1) }
+        ensures kept { result ≡ min (keeps self.now) (2 ^ 64 - 1) }
+        ensures room { HasRoom self.now.place }
     {
         match &self.stage {
             MessageStage::Request(reader) => reader.unused(),

@@ -4,6 +4,7 @@ use Rattle.std.specs.Prelude.{⊤, not, if◌then◌else◌}
 use Rattle.std.proofs.lemmas.List.{append-nil}
 use Rattle.std.proofs.lemmas.Grind.{flat_map-append}
 use Rattle.px_message.specs.declared.address.Address.{Address}
+use Rattle.px_message.specs.declared.fault.Fault.{Fault}
 use Rattle.px_message.specs.declared.flow.Flow.{Flow}
 use Rattle.px_message.specs.declared.request.Request.{Request}
 use Rattle.px_message.specs.declared.response.Response.{Response}
@@ -17,6 +18,7 @@ use Rattle.px_event.specs.Chain.{Timed, Look, NotYet, Asks, Ends, Turn, found}
 use Rattle.px_event.specs.Layer.{Move}
 use Rattle.px_event.specs.Stands.{events_in, replies_in}
 use Rattle.px_read.specs.Items.{Item, missing, part, complete, bad_head, bad_body}
+use Rattle.px_read.specs.declared.head.RequestHead.{RequestHead as ReadRequest}
 use Rattle.px_read.specs.declared.head.ResponseHead.{ResponseHead as ReadResponse}
 use Rattle.px_exchange.specs.declared.ending.Used.{Used}
 use Rattle.px_exchange.specs.declared.taken.Taken.{Taken}
@@ -25,10 +27,10 @@ use Rattle.px_exchange.specs.declared.terms.Terms.{Terms}
 use Rattle.px_exchange.specs.Finds.{is_relayed, look_answer, look_answer_head, look_returned, or_leaves}
 use Rattle.px_exchange.specs.Flows.{ask_of}
 use Rattle.px_exchange.specs.Replies.{taken_at_request_head, taken_at_request_body}
-use Rattle.px_chain.specs.Chain.{look as look_of, look_coming, pass as pass_of, sequence, turn as turn_of}
+use Rattle.px_chain.specs.Chain.{bad_or, look as look_of, look_coming, look_up, pass as pass_of, sequence, turn as turn_of}
 use Rattle.px_chain.specs.Left.{stage_left}
-use Rattle.px_chain.specs.Sights.{Sight, answers_in, server_in, sight_over}
-use Rattle.px_chain.specs.Stages.{At, busy, coming_down, connection, given_body, given_head, idle, next, request_body, response_body, response_head, upgraded}
+use Rattle.px_chain.specs.Sights.{Sight, answers_in, request_in, server_in, sight_over}
+use Rattle.px_chain.specs.Stages.{At, Sent, all_sent, busy, coming_down, connection, given_body, given_head, going_up, idle, next, request_body, response_body, response_head, upgraded}
 use Rattle.px_chain.specs.Stages as flows
 use Rattle.px_chain.proofs.Quiet.{AllQuiet, LooksQuiet, any_flow}
 use Rattle.px_chain.proofs.QuietLemmas.{IsGoing, pass_quiet, turn_behind, turn_quiet}
@@ -128,6 +130,18 @@ coming_not flow (complete head body trailers size) moment used closed = tt
 coming_not flow (bad_head fault) moment used closed = tt
 coming_not flow (bad_body fault head body) moment used closed = tt
 
+-- nor where a request that goes up is found bad first
+bad_not : (item : Item ReadRequest) (ends : Fault → List Command) (found : Look Command) → AsksNoDial found → AsksNoDial (bad_or item ends found)
+bad_not missing ends found not_one = not_one
+bad_not (part head body) ends found not_one = not_one
+bad_not (complete head body trailers size) ends found not_one = not_one
+bad_not (bad_head fault) ends found not_one = not_one
+bad_not (bad_body fault head body) ends found not_one = tt
+
+up_not : (how : Sent) (seen : Sight) (ends : Fault → List Command) (found : Look Command) → AsksNoDial found → AsksNoDial (look_up how seen ends found)
+up_not all_sent seen ends found not_one = not_one
+up_not going_up seen ends found not_one = bad_not (request_in seen) ends found not_one
+
 left_not : (l : Look Command) → AsksNoDial l → AsksNoDial (to_servers_in l)
 left_not NotYet not_one = tt
 left_not (Asks ask) not_one = not_one
@@ -141,14 +155,14 @@ found_none (Ends owed) not_one quiet = quiet_dials owed quiet
 module _ (terms : Terms) where
   asks_no_dial : (stage : flows.Stage) (seen : Sight) → IsBehindDial stage → AsksNoDial (look_by stage seen (look_of terms stage seen))
   asks_no_dial (idle at) seen is = tt
-  asks_no_dial (busy at flow (request_body given)) seen is = absurd is
-  asks_no_dial (busy at flow connection) seen is = absurd is
+  asks_no_dial (busy at flow (request_body given most)) seen is = absurd is
+  asks_no_dial (busy at flow (connection how)) seen is = absurd is
   asks_no_dial (busy at flow (response_head side how)) seen is =
-      left_not _ (leaves_not seen.closed _ _ (answer_not flow (answers_in flow.request seen).final seen.now (server_in side seen) seen.closed))
+      left_not _ (leaves_not seen.closed _ _ (up_not how seen _ _ (answer_not flow (answers_in flow.request seen).final seen.now (server_in side seen) seen.closed)))
   asks_no_dial (busy at flow (response_body side how most)) seen is =
-      left_not _ (leaves_not seen.closed _ _ (returned_not flow (answers_in flow.request seen).final seen.now (server_in side seen) seen.closed))
+      left_not _ (leaves_not seen.closed _ _ (up_not how seen _ _ (returned_not flow (answers_in flow.request seen).final seen.now (server_in side seen) seen.closed)))
   asks_no_dial (busy at flow (coming_down side how)) seen is =
-      left_not _ (leaves_not seen.closed _ _ (coming_not flow (answers_in flow.request seen).final seen.now (server_in side seen) seen.closed))
+      left_not _ (leaves_not seen.closed _ _ (up_not how seen _ _ (coming_not flow (answers_in flow.request seen).final seen.now (server_in side seen) seen.closed)))
   asks_no_dial (busy at flow (upgraded side)) seen is = tt
   asks_no_dial (busy at flow given_head) seen is = refl
   asks_no_dial (busy at flow given_body) seen is = refl
@@ -221,7 +235,7 @@ module _ (terms : Terms) (recorded : Request) where
   dials_none (asks_whole flow) prefix = refl
   dials_none (goes_on place) prefix =
       let seen : Sight = sight_over place (all_of_servers prefix) in
-      let owed : List Command = (pass_of place.stage seen).owed in
+      let owed : List Command = (pass_of terms place.stage seen).owed in
       quiet_dials (to_servers owed) (quiet_left any_flow owed (pass_quiet terms any_flow place.stage seen (is_any terms place.stage)))
   dials_none over prefix = refl
 
@@ -257,10 +271,10 @@ module _ (terms : Terms) (recorded : Request) where
   flow_asked servers stage seen ask answer is asked =
       let P : flows.Stage → Type 0 = λ s. look_by s seen (look_of terms s seen) ≡ Asks ask →
       (asking : List ℕ) × (dials_in (ask ∷ []) ≡ asking) × DialledFor (sequence (turn_of terms s seen answer).stage) (servers ++ asking) in
-      by_dial (IsFirst servers) (IsFirstAlone servers) P stage is (λ at flow first asks. (
+      by_dial (IsFirst servers) (IsFirstAlone servers) P stage is (λ at flow how first asks. (
         at.dials ∷ [],
         dials_of _ ask (at.dials ∷ []) refl asks,
-        (flow_leads (servers ++ (at.dials ∷ [])) (busy at flow connection) seen answer (first_alone servers at.dials first.0 first.1) (omega arith) tt).1,
+        (flow_leads (servers ++ (at.dials ∷ [])) (busy at flow (connection how)) seen answer (first_alone servers at.dials first.0 first.1) (omega arith) tt).1,
       )) (λ behind one asks.
       let goes = (asked_there terms stage seen ask asks).0 in
       behind_dial servers stage seen ask answer behind one ((past stage behind).few goes) (busy_goes stage goes) asks) asked
@@ -288,7 +302,7 @@ module _ (terms : Terms) (recorded : Request) where
       let P : flows.Stage → Type 0 = λ s. Holds (before ++ found (look_by s seen (look_of terms s seen))) in
       let Q : List ℕ → Type 0 = IsFirstAlone in
       by_dial (IsFirst first) (IsFirstAlone first) P stage is
-      (λ at flow one. subst Q (sym (more_dials before (found (look_by (busy at flow connection) seen (look_of terms (busy at flow connection) seen))) (at.dials ∷ []) refl))
+      (λ at flow how one. subst Q (sym (more_dials before (found (look_by (busy at flow (connection how)) seen (look_of terms (busy at flow (connection how)) seen))) (at.dials ∷ []) refl))
       (first_alone first at.dials one.0 one.1))
       (λ behind one. stops_quietly before _ (no_dial terms stage seen behind) one)
 

@@ -24,7 +24,7 @@ use Rattle.px_exchange.specs.Endings.{shut_server}
 use Rattle.px_exchange.specs.Finds.{look_head, or_leaves}
 use Rattle.px_chain.specs.Chain.{look}
 use Rattle.px_chain.specs.Sights.{Sight, Standing, request_in, server_in, server_parked, sight_over}
-use Rattle.px_chain.specs.Stages.{At, all_sent, busy, coming_down, connection, given_body, given_head, idle, next, request_body, response_body, response_head, upgraded}
+use Rattle.px_chain.specs.Stages.{At, busy, coming_down, connection, given_body, given_head, idle, next, request_body, response_body, response_head, upgraded}
 use Rattle.px_chain.specs.Stages as flows
 use Rattle.px_chain.specs.Streams.{bytes_of}
 use Rattle.px_chain.proofs.Quiet.{IsAskOf, LooksQuiet, any_flow}
@@ -38,6 +38,7 @@ use Rattle.px_stream.specs.declared.phase.Wanted.TheVariants as ready
 use Rattle.px_stream.specs.declared.stream.Stream.{Stream}
 use Rattle.px_stream.specs.Tells.{closed_in, is_idle, outcome_in, phase_flow, sequence_left, upgraded_side}
 use Rattle.px_stream.specs.Anywhere.{IsInSequence}
+use Rattle.px_stream.specs.Goings.{sent_by, sent_of}
 use Rattle.px_stream.specs.Stands.{IsLast, IsOpen, LinkKeeps, PhaseAt, awaited_in, stage_of}
 use Rattle.px_resend.specs.declared.child.Child.{Child}
 use Rattle.px_resend.specs.declared.child.Child.TheVariants as children
@@ -152,11 +153,11 @@ module _ (terms : Terms) (recorded : Request) (boxed : Box Stream) (next_child :
 
       not_yet : (here : At) (looked : Wanted) → boxed.value.phase ≡ phase.Ready looked → look terms (stage_of here looked) seen ≡ NotYet → FollowsBy (stage_of here looked) seen NotYet
       not_yet here ready.Idle same is = idle_on here (subst Leads same leads)
-      not_yet here (ready.RequestBody flow given body) same is = waits_on (busy here flow (request_body given)) refl (subst Leads same leads)
-      not_yet here (ready.Connection flow) same is = waits_on (busy here flow connection) refl (subst Leads same leads)
-      not_yet here (ready.ResponseHead flow server) same is = waits_on (busy here flow (response_head server all_sent)) refl (subst Leads same leads)
-      not_yet here (ready.ResponseBody flow server most body held) same is = waits_on (busy here flow (response_body server all_sent most)) refl (subst Leads same leads)
-      not_yet here (ready.ComingDown flow server sent) same is = waits_on (busy here flow (coming_down server all_sent)) refl (subst Leads same leads)
+      not_yet here (ready.RequestBody flow given most body kept) same is = waits_on (busy here flow (request_body given most)) refl (subst Leads same leads)
+      not_yet here (ready.Connection flow up) same is = waits_on (busy here flow (connection (sent_by up))) refl (subst Leads same leads)
+      not_yet here (ready.ResponseHead flow server up) same is = waits_on (busy here flow (response_head server (sent_of up))) refl (subst Leads same leads)
+      not_yet here (ready.ResponseBody flow server up most body held) same is = waits_on (busy here flow (response_body server (sent_of up) most)) refl (subst Leads same leads)
+      not_yet here (ready.ComingDown flow server up sent) same is = waits_on (busy here flow (coming_down server (sent_of up))) refl (subst Leads same leads)
       not_yet here (ready.Upgraded flow server) same is = absurd (never_waits seen.closed is)
       not_yet here (ready.GivenHead flow) same is = waits_on (busy here flow given_head) refl (subst Leads same leads)
       not_yet here (ready.GivenBody flow) same is = waits_on (busy here flow given_body) refl (subst Leads same leads)
@@ -194,8 +195,8 @@ module _ (terms : Terms) (recorded : Request) (boxed : Box Stream) (next_child :
       ends_it : (stage : flows.Stage) (owed : List Command) (last : Wanted) → seen.client ≡ [] → seen.closed ≡ false → boxed.value.phase ≡ phase.Ready last → look terms stage seen ≡ Ends owed →
           IsLast terms stage seen boxed.value.requests boxed.value.side last → FollowsBy stage seen (Ends owed)
       ends_it (idle here) owed last none unclosed same is over = absurd (let no : NotYet ≡ Ends owed = sym (idle_waits terms here seen none unclosed) ∙ is in cc)
-      ends_it (busy here flow (request_body given)) owed last none unclosed same is over = ends_as (busy here flow (request_body given)) owed last same refl over
-      ends_it (busy here flow connection) owed last none unclosed same is over = ends_as (busy here flow connection) owed last same refl over
+      ends_it (busy here flow (request_body given most)) owed last none unclosed same is over = ends_as (busy here flow (request_body given most)) owed last same refl over
+      ends_it (busy here flow (connection how)) owed last none unclosed same is over = ends_as (busy here flow (connection how)) owed last same refl over
       ends_it (busy here flow (response_head server sent)) owed last none unclosed same is over = ends_as (busy here flow (response_head server sent)) owed last same refl over
       ends_it (busy here flow (response_body server sent most)) owed last none unclosed same is over = ends_as (busy here flow (response_body server sent most)) owed last same refl over
       ends_it (busy here flow (coming_down server sent)) owed last none unclosed same is over = ends_as (busy here flow (coming_down server sent)) owed last same refl over
@@ -211,7 +212,7 @@ module _ (terms : Terms) (recorded : Request) (boxed : Box Stream) (next_child :
 
       follows_by : (stage : flows.Stage) (l : Look Command) → seen.client ≡ [] → seen.closed ≡ false → look terms stage seen ≡ l →
           PhaseAt l terms boxed.value.at boxed.value.requests boxed.value.side boxed.value.phase stage seen → FollowsBy stage seen l
-      follows_by stage NotYet none unclosed is (looked, sent, same, wants, gave) =
+      follows_by stage NotYet none unclosed is (looked, sent, same, wants, gave, rests) =
           let P : flows.Stage → Type 0 = λ s. look terms s seen ≡ NotYet → FollowsBy s seen NotYet in
           subst P wants.is_stage (not_yet boxed.value.at looked same) is
       follows_by stage (Asks ask) none unclosed is (awaits, same, asked) = asks_it stage ask awaits none unclosed same is
@@ -274,11 +275,11 @@ module _ (boxed : Box Stream) (next_child : Child) (more : List Command) where
       option_to_list (awaited_in is_here) ++ flat_map asks_in more ≡ option_to_list (awaited_by next_child)
   asks_by (phase.Asked awaits) its leads = goes_asks (phase.Asked awaits) its leads
   asks_by (phase.Ready ready.Idle) its leads = over_asks leads.0 (none_asked leads.1)
-  asks_by (phase.Ready (ready.RequestBody flow given body)) its leads = goes_asks (phase.Ready (ready.RequestBody flow given body)) its leads
-  asks_by (phase.Ready (ready.Connection flow)) its leads = goes_asks (phase.Ready (ready.Connection flow)) its leads
-  asks_by (phase.Ready (ready.ResponseHead flow server)) its leads = goes_asks (phase.Ready (ready.ResponseHead flow server)) its leads
-  asks_by (phase.Ready (ready.ResponseBody flow server most body held)) its leads = goes_asks (phase.Ready (ready.ResponseBody flow server most body held)) its leads
-  asks_by (phase.Ready (ready.ComingDown flow server sent)) its leads = goes_asks (phase.Ready (ready.ComingDown flow server sent)) its leads
+  asks_by (phase.Ready (ready.RequestBody flow given most body kept)) its leads = goes_asks (phase.Ready (ready.RequestBody flow given most body kept)) its leads
+  asks_by (phase.Ready (ready.Connection flow up)) its leads = goes_asks (phase.Ready (ready.Connection flow up)) its leads
+  asks_by (phase.Ready (ready.ResponseHead flow server up)) its leads = goes_asks (phase.Ready (ready.ResponseHead flow server up)) its leads
+  asks_by (phase.Ready (ready.ResponseBody flow server up most body held)) its leads = goes_asks (phase.Ready (ready.ResponseBody flow server up most body held)) its leads
+  asks_by (phase.Ready (ready.ComingDown flow server up sent)) its leads = goes_asks (phase.Ready (ready.ComingDown flow server up sent)) its leads
   asks_by (phase.Ready (ready.GivenHead flow)) its leads = goes_asks (phase.Ready (ready.GivenHead flow)) its leads
   asks_by (phase.Ready (ready.GivenBody flow)) its leads = goes_asks (phase.Ready (ready.GivenBody flow)) its leads
   asks_by (phase.Ready (ready.Connects address)) its leads = over_asks leads.0 (none_asked leads.1)

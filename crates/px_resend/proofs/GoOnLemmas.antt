@@ -89,7 +89,7 @@ asks_still true leaving ask = refl
 asks_still false leaving ask = refl
 
 asks_by : (given : Option Response) (terms : Terms) (flow : Flow) (before seen : Sight) →
-    (ask : Command) × (look terms (sequence (pass (busy first_at flow (doing_by given)) before).stage) seen ≡ Asks ask)
+    (ask : Command) × (look terms (sequence (pass terms (busy first_at flow (doing_by given)) before).stage) seen ≡ Asks ask)
 asks_by None terms flow before seen =
     let ask : Command = commands.Dial first_at.dials (dialled_for terms.place flow.request) None in (ask, asks_still seen.closed [] ask)
 asks_by (Some response) terms flow before seen =

@@ -21,12 +21,12 @@ use Rattle.px_exchange.specs.declared.terms.Terms.{Terms}
 use Rattle.px_exchange.specs.Texts.{interim_command, interim_commands}
 use Rattle.px_chain.specs.Chain.{http_chain, sequence, so_far}
 use Rattle.px_chain.specs.Sights.{Sight, Standing, answers_in, sight_over}
-use Rattle.px_chain.specs.Stages.{busy, coming_down, connection, given_body, given_head, idle, next, request_body, response_body, response_head, upgraded}
+use Rattle.px_chain.specs.Stages.{all_sent, busy, coming_down, connection, given_body, given_head, going_up, idle, next, request_body, response_body, response_head, upgraded}
 use Rattle.px_chain.specs.Stages as flows
 use Rattle.px_stream.specs.declared.stream.Stream.{Stream}
 use Rattle.px_stream.specs.Anywhere.{IsInSequence, ResumesAnywhere, Somewhere, TakesAnywhere}
 use Rattle.px_stream.specs.Tells.{sequence_left}
-use Rattle.px_stream.specs.Stands.{awaits}
+use Rattle.px_stream.specs.Stands.{awaits, sent_at}
 use Rattle.px_resend.specs.declared.child.Child.{Child}
 use Rattle.px_resend.specs.declared.child.Child.TheVariants as children
 use Rattle.px_resend.specs.Chain.{Stage, asks_head, asks_whole, flows_of, goes_on, over, resend_chain, waiting}
@@ -103,28 +103,32 @@ interim_by : (version : Version) (request : Request) (heads : List ReadResponse)
 interim_by versions.Http10 request heads is = rw is refl
 interim_by versions.Http11 request heads is = rw is (interim_none heads)
 
-waits_none : (stage : flows.Stage) (seen : Sight) → to_servers (so_far stage seen) ≡ []
-waits_none (idle at) seen = refl
-waits_none (busy at flow (request_body given)) seen = refl
-waits_none (busy at flow connection) seen = refl
-waits_none (busy at flow (response_head side how)) seen = interim_by flow.request.version flow.request (answers_in flow.request seen).interim refl
-waits_none (busy at flow (response_body side how most)) seen = refl
-waits_none (busy at flow (coming_down side how)) seen = refl
-waits_none (busy at flow (upgraded side)) seen = refl
-waits_none (busy at flow given_head) seen = refl
-waits_none (busy at flow given_body) seen = refl
-waits_none (next at) seen = refl
-waits_none flows.over seen = refl
+-- nothing of its request is owed while it waits: that was whole
+waits_none : (terms : Terms) (stage : flows.Stage) (seen : Sight) → sent_at stage ≡ all_sent → to_servers (so_far terms stage seen) ≡ []
+waits_none terms (idle at) seen whole = refl
+waits_none terms (busy at flow (request_body given most)) seen whole = refl
+waits_none terms (busy at flow (connection how)) seen whole = refl
+waits_none terms (busy at flow (response_head side all_sent)) seen whole = interim_by flow.request.version flow.request (answers_in flow.request seen).interim refl
+waits_none terms (busy at flow (response_head side going_up)) seen whole = absurd (let no : going_up ≡ all_sent = whole in cc)
+waits_none terms (busy at flow (response_body side all_sent most)) seen whole = refl
+waits_none terms (busy at flow (response_body side going_up most)) seen whole = absurd (let no : going_up ≡ all_sent = whole in cc)
+waits_none terms (busy at flow (coming_down side all_sent)) seen whole = refl
+waits_none terms (busy at flow (coming_down side going_up)) seen whole = absurd (let no : going_up ≡ all_sent = whole in cc)
+waits_none terms (busy at flow (upgraded side)) seen whole = refl
+waits_none terms (busy at flow given_head) seen whole = refl
+waits_none terms (busy at flow given_body) seen whole = refl
+waits_none terms (next at) seen whole = refl
+waits_none terms flows.over seen whole = refl
 
 -- what a place owes to servers is what is found there, where no side is parked
 pub owed_there : (terms : Terms) (recorded : Request) (place : Standing) (prefix : List (Timed Event)) → IsUnparked place.stage →
     to_servers (owed_here (flows_of terms recorded) place prefix) ≡ to_servers (found ((flows_of terms recorded).look place prefix))
 owed_there terms recorded place prefix unparked =
-    let waits : List Command = so_far place.stage (sight_over place prefix) in
+    let waits : List Command = so_far terms place.stage (sight_over place prefix) in
     let here : Look Command = (flows_of terms recorded).look place prefix in
     ap (λ behind. to_servers (waits ++ found_with behind here)) (none_behind place.stage (sight_over place prefix) unparked)
     ∙ (servers_append waits (found here)
-    ∙ ap (λ l. l ++ to_servers (found here)) (waits_none place.stage (sight_over place prefix)))
+    ∙ ap (λ l. l ++ to_servers (found here)) (waits_none terms place.stage (sight_over place prefix) unparked.whole))
 
 -- and so where it passes, behind what passing owes
 pub owed_passed : (terms : Terms) (recorded : Request) (place : Standing) (prefix : List (Timed Event)) → IsUnparked ((flows_of terms recorded).pass place prefix).stage.stage →
@@ -176,7 +180,7 @@ module _ (terms : Terms) (recorded : Request) (boxed : Box Stream) (after : Box 
       let next_there = follows_at terms recorded after child second on (prefix ++ e ∷ []) there still follows in
       onward (found_same terms recorded boxed place prefix is_child ∙ is) next_there.there
       (λ view. gave_both view (chain.so_far place (all_of_servers prefix)) (owed_over chain place more) (to_servers (chain.pass place more).owed) (found (chain.look on more))
-      (found ((resend_chain terms recorded).look (goes_on on) (prefix ++ e ∷ []))) (waits_none place.stage (sight_over place (all_of_servers prefix)))
+      (found ((resend_chain terms recorded).look (goes_on on) (prefix ++ e ∷ []))) (waits_none terms place.stage (sight_over place (all_of_servers prefix)) unparked.whole)
       (owed_passed terms recorded place more still) (gives view ∙ ap (λ p. seen_of view (owed_over chain place p)) same) (next_there.gives view))
 
   takes_there : (moment : ℕ) (event : Event) (place : Standing) (prefix : List (Timed Event)) → IsChild terms recorded (children.GoesOn boxed) (goes_on place) prefix → IsUnparked place.stage →

@@ -152,22 +152,22 @@ module _ (terms : Terms) (stage : flows.Stage) (seen : Sight) (ask : Command) (a
       ended_past index (turn_of terms stage seen reply).stage (turn_of terms stage seen reply).owed (turn_led terms any_flow stage seen reply flow_goes (is_any terms stage)).ends_none ends
 
 -- where it passes
-passed_quiet : (terms : Terms) (stage : flows.Stage) (seen : Sight) → AllQuiet any_flow (to_servers (pass_of stage seen).owed)
-passed_quiet terms stage seen = quiet_left any_flow (pass_of stage seen).owed (pass_quiet terms any_flow stage seen (is_any terms stage))
+passed_quiet : (terms : Terms) (stage : flows.Stage) (seen : Sight) → AllQuiet any_flow (to_servers (pass_of terms stage seen).owed)
+passed_quiet terms stage seen = quiet_left any_flow (pass_of terms stage seen).owed (pass_quiet terms any_flow stage seen (is_any terms stage))
 
-passed_ends : (terms : Terms) (index : ℕ) (stage : flows.Stage) (seen : Sight) → EndsOneOf index (to_servers (pass_of stage seen).owed) →
-    is_finished (sequence (pass_of stage seen).stage) ≡ true
+passed_ends : (terms : Terms) (index : ℕ) (stage : flows.Stage) (seen : Sight) → EndsOneOf index (to_servers (pass_of terms stage seen).owed) →
+    is_finished (sequence (pass_of terms stage seen).stage) ≡ true
 passed_ends terms index (idle at) seen ends = refl
 passed_ends terms index (busy at flow doing) seen ends =
-    let there = pass_of (busy at flow doing) seen in ended_past index there.stage there.owed (pass_led terms any_flow at flow doing seen tt).ends_none ends
+    let there = pass_of terms (busy at flow doing) seen in ended_past index there.stage there.owed (pass_led terms any_flow at flow doing seen tt).ends_none ends
 passed_ends terms index (next at) seen ends = refl
 passed_ends terms index flows.over seen ends = refl
 
-finished_passed : (stage : flows.Stage) (seen : Sight) → is_finished stage ≡ true → is_finished (sequence (pass_of stage seen).stage) ≡ true
-finished_passed (idle at) seen is = refl
-finished_passed (busy at flow doing) seen is = not_past is
-finished_passed (next at) seen is = refl
-finished_passed flows.over seen is = refl
+finished_passed : (terms : Terms) (stage : flows.Stage) (seen : Sight) → is_finished stage ≡ true → is_finished (sequence (pass_of terms stage seen).stage) ≡ true
+finished_passed terms (idle at) seen is = refl
+finished_passed terms (busy at flow doing) seen is = not_past is
+finished_passed terms (next at) seen is = refl
+finished_passed terms flows.over seen is = refl
 
 -- behind its flow nothing is found
 finished_none : (terms : Terms) (index : ℕ) (stage : flows.Stage) (seen : Sight) → is_finished stage ≡ true → AsksNoneOf index (found (look_by stage seen (look_of terms stage seen)))
@@ -192,12 +192,12 @@ module _ (terms : Terms) (recorded : Request) where
   passes (asks_whole flow) prefix = leads_on (asks_whole flow) (asks_whole flow) (λ index past. past)
   passes (goes_on place) prefix =
       let seen : Sight = sight_over place (all_of_servers prefix) in
-      let owed : List Command = to_servers (pass_of place.stage seen).owed in
+      let owed : List Command = to_servers (pass_of terms place.stage seen).owed in
       record {
         ordered = quiet_ordered owed (passed_quiet terms place.stage seen);
         asks_none = λ index past. none_asked index owed (passed_quiet terms place.stage seen);
         ends = λ index ends. passed_ends terms index place.stage seen ends;
-        keeps = λ index past. finished_passed place.stage seen past;
+        keeps = λ index past. finished_passed terms place.stage seen past;
         leads = refl;
       }
   passes over prefix = leads_on over over (λ index past. past)

@@ -15,8 +15,8 @@ pub found_by : (P : Look Command → Type 0) (stage : flows.Stage) (seen : Sight
     ((at : At) (flow : Flow) (server : ℕ) → stage ≡ busy at flow (upgraded server) → P (Ends (finishes flow (shut_server (server_in server seen))))) →
     P (to_servers_in l) → P (look_by stage seen l)
 found_by P (idle at) seen l none last goes = none at refl
-found_by P (busy at flow (request_body given)) seen l none last goes = goes
-found_by P (busy at flow connection) seen l none last goes = goes
+found_by P (busy at flow (request_body given most)) seen l none last goes = goes
+found_by P (busy at flow (connection how)) seen l none last goes = goes
 found_by P (busy at flow (response_head server sent)) seen l none last goes = goes
 found_by P (busy at flow (response_body server sent most)) seen l none last goes = goes
 found_by P (busy at flow (coming_down server sent)) seen l none last goes = goes

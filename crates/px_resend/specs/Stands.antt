@@ -11,10 +11,11 @@ use Rattle.px_event.specs.Layer.{Move}
 use Rattle.px_event.specs.Stands.{StandsAt}
 use Rattle.px_exchange.specs.declared.terms.Terms.{Terms}
 use Rattle.px_chain.specs.Sights.{Standing}
-use Rattle.px_chain.specs.Stages.{At, busy, connection, request_body}
+use Rattle.px_chain.specs.Stages.{At, all_sent, busy, connection, request_body}
 use Rattle.px_chain.specs.Stages as flows
 use Rattle.px_stream.specs.declared.stream.Stream.{Stream}
 use Rattle.px_stream.specs.Anywhere.{IsInSequence}
+use Rattle.px_stream.specs.Stands.{sent_at}
 use Rattle.px_resend.specs.Chain.{Stage, asks_head, asks_whole, goes_on, over, resend_chain, terms_by, waiting}
 use Rattle.px_resend.specs.Heard.{all_of_servers}
 use Rattle.px_resend.specs.Kept.{awaited_by}
@@ -32,16 +33,18 @@ chain_of made = resend_chain (terms_in made) made.request
 
 -- The flow's request is read no more: this holds where its server is dialled, and that behind it.
 abbrev pub ByDial : (At → Type 0) → Type 0 → flows.Stage → Type 0
-ByDial dialling behind (busy at flow (request_body given)) = ⊥
-ByDial dialling behind (busy at flow connection) = dialling at
+ByDial dialling behind (busy at flow (request_body given most)) = ⊥
+ByDial dialling behind (busy at flow (connection how)) = dialling at
 ByDial dialling behind stage = behind
 
 -- where its server is dialled no side is parked
 abbrev pub NoneParked : At → Type 0
 NoneParked at = at.parked ≡ None
 
-abbrev pub IsUnparked : flows.Stage → Type 0
-IsUnparked stage = ByDial NoneParked ⊤ stage
+-- and all of its request was sent on there, or is at once: none is streamed
+pub record IsUnparked (stage : flows.Stage) : Type 0 where
+  pub dial : ByDial NoneParked ⊤ stage
+  pub whole : sent_at stage ≡ all_sent
 
 -- the stream of a flow that goes on, at this place
 pub record IsGoing (terms : Terms) (place : Standing) (prefix : List (Timed Event)) (child : Child) : Type 0 where

@@ -25,11 +25,15 @@ use Rattle.px_exchange.specs.Requests.{is_head, is_http11}
 use Rattle.px_said.specs.ClosedForm.{GoesOn, KeepsFlow, dial_answers, fault_said, first_flows, said, said_of}
 use Rattle.px_message.specs.declared.length.Length.{Length}
 use Rattle.px_message.specs.Length.{has_no_body}
-use Rattle.px_read.specs.Items.{response_item}
+use Rattle.px_read.specs.Items.{request_item, response_item}
 use Rattle.px_read.specs.Laws.{head_in}
-use Rattle.px_parts.specs.Streamed.{response_says, streamed_by, streams_behind}
+use Rattle.px_parts.specs.Streamed.{request_says, response_says, streamed_by, streams_behind}
 use Rattle.px_parts.specs.Texts.{final_bytes}
 use Rattle.px_chain.specs.Coming.{allowed_by, streams_by, streams_in, told_with}
+use Rattle.px_chain.specs.Chain.{begins_going, is_unheard, parked_for}
+use Rattle.px_chain.specs.Stages.{At}
+use Rattle.px_exchange.specs.declared.place.Place.{Place}
+use Rattle.px_chain.specs.Going.{allowed_up_by, goes_up}
 use Rattle.px_chain.specs.Sights.{Sight}
 
 pub said_join : (a b : List Command) → said (a ++ b) ≡ said a ++ said b
@@ -239,11 +243,21 @@ allows_none streams flow reply.Discard keeps = absurd keeps
 allows_none streams flow reply.Dialled keeps = absurd keeps
 allows_none streams flow (reply.Refused fault) keeps = absurd keeps
 
+-- nor one of a request
+pub allows_up_none : (streams : Bool) (flow : Flow) (value : Reply) → KeepsFlow flow value → allowed_up_by streams value ≡ None
+allows_up_none true flow (reply.Go given streamed) keeps = keeps.2
+allows_up_none false flow (reply.Go given streamed) keeps = refl
+allows_up_none streams flow (reply.Respond response) keeps = absurd keeps
+allows_up_none streams flow reply.Kill keeps = absurd keeps
+allows_up_none streams flow reply.Discard keeps = absurd keeps
+allows_up_none streams flow reply.Dialled keeps = absurd keeps
+allows_up_none streams flow (reply.Refused fault) keeps = absurd keeps
+
 kept_length : (says : Result Length Fault) (heard : ℕ) → streamed_by says None heard ≡ false
 kept_length (Ok length) heard = refl
 kept_length (Err fault) heard = refl
 
-kept_behind : (says : ResponseHead → Result Length Fault) (head : Option ResponseHead) (heard : ℕ) → streams_behind says head None heard ≡ false
+kept_behind : {H : Type 0} → (says : H → Result Length Fault) (head : Option H) (heard : ℕ) → streams_behind says head None heard ≡ false
 kept_behind says None heard = refl
 kept_behind says (Some head) heard = kept_length (says head) heard
 
@@ -260,6 +274,12 @@ kept_by (Some response) message closed bytes =
 
 pub streams_none : (flow : Flow) (seen : Sight) → streams_in flow None seen ≡ false
 streams_none flow seen = kept_by flow.response flow.request seen.shut seen.server
+
+goes_none : (seen : Sight) → goes_up None seen ≡ false
+goes_none seen = kept_behind request_says (head_in (request_item seen.client)) _
+
+pub begins_none : (place : Place) (at : At) (flow : Flow) (seen : Sight) → begins_going place at flow None seen ≡ false
+begins_none place at flow seen = ap (λ b. b && is_unheard (parked_for place flow.request at.parked) seen) (goes_none seen)
 
 -- ---- what a reply that goes on is taken for
 

@@ -31,8 +31,9 @@ use Rattle.px_exchange.specs.Requests.{is_head}
 use Rattle.px_exchange.specs.Texts.{interim_commands, returned_text}
 use Rattle.px_chain.specs.Chain.{behind_flow, finish_by, sequence, turn_answer, turn_answer_head, turn_read_whole, turn_response, turn_returned, turn_taken_answer, turn_taken_whole}
 use Rattle.px_said.specs.ClosedForm.{answers_at, dial_answers, ended_at, is_whole, response_is_whole, said, said_answers, said_behind, said_final, said_headed, said_on, said_relayed, said_returned, whole_response}
-use Rattle.px_chain.specs.Sights.{Sight, UsedBytes, answers_in, server_in, sight_of, used_behind, used_with}
-use Rattle.px_chain.specs.Stages.{At, Stage, side_of, unparked}
+use Rattle.px_chain.specs.Behind.{used_behind}
+use Rattle.px_chain.specs.Sights.{Sight, UsedBytes, answers_in, server_in, sight_of, used_with}
+use Rattle.px_chain.specs.Stages.{At, Stage, all_sent, side_of, unparked}
 use Rattle.px_chain.specs.Streams.{Since}
 use Rattle.px_said.proofs.ClosedFronts.{IsFront, IsSame, answers_grow, front_length, least_at, same_answers, same_taken}
 use Rattle.px_said.proofs.ClosedQuiet.{no_dial, said_join, says_finished, says_interim, takes_response_body, takes_response_head, allows_none}
@@ -48,14 +49,14 @@ early flow seen used = ends_early flow closed_message seen.now used true
 
 module _ (terms : Terms) (events : List (Timed Event)) (all : List Command) (flows : ℕ) where
   -- the responses that were seen, and those of all events
-  pub answers_carried : (asked : Request) (side opened : ℕ) (used : UsedBytes) (since : Since) (prefix : List (Timed Event)) → IsFront prefix events →
-      AnswersCarry (answers_in asked (sight_of (Some side) since opened used prefix)) (told terms events all side opened used.server asked)
-  answers_carried asked side opened used since prefix is = answers_grow (is_head asked.method) side opened used.server prefix events is
+  pub answers_carried : (asked : Request) (side opened : ℕ) (used : UsedBytes) (since : Since) (up : ℕ) (prefix : List (Timed Event)) → IsFront prefix events →
+      AnswersCarry (answers_in asked (sight_of (Some side) since opened used up prefix)) (told terms events all side opened used.server asked)
+  answers_carried asked side opened used since up prefix is = answers_grow (is_head asked.method) side opened used.server prefix events is
 
   -- over the same events they are the same
-  pub answers_same : (asked : Request) (side opened : ℕ) (used : UsedBytes) (since : Since) (prefix others : List (Timed Event)) → IsSame prefix others →
-      answers_in asked (sight_of (Some side) since opened used prefix) ≡ answers_at others side opened used.server (is_head asked.method)
-  answers_same asked side opened used since prefix others is = same_answers (is_head asked.method) side opened used.server prefix others is
+  pub answers_same : (asked : Request) (side opened : ℕ) (used : UsedBytes) (since : Since) (up : ℕ) (prefix others : List (Timed Event)) → IsSame prefix others →
+      answers_in asked (sight_of (Some side) since opened used up prefix) ≡ answers_at others side opened used.server (is_head asked.method)
+  answers_same asked side opened used since up prefix others is = same_answers (is_head asked.method) side opened used.server prefix others is
 
   -- what is left behind a flow: of the flows that are to come
   by_stays : (more : ℕ) (stays : Bool) (at : At) (used : UsedBytes) (after : Stage → ℕ) (from opened come : ℕ) (sent : List Command) (left : List Reply) →
@@ -77,7 +78,7 @@ module _ (terms : Terms) (events : List (Timed Event)) (all : List Command) (flo
   by_last false at used from opened come sent left is = is ∙ append-nil (said sent)
 
   module _ (sent : List Command) (moment : ℕ) (value : Reply) (waits : Bool) (rest : List Command) (replies : List Reply)
-      (since : Since) (opened : ℕ) (used : UsedBytes) (prefix : List (Timed Event)) (is_front : IsFront prefix events) (ask : Command) (at : At) (flow : Flow) (side : ℕ) where
+      (since : Since) (opened : ℕ) (used : UsedBytes) (up : ℕ) (prefix : List (Timed Event)) (is_front : IsFront prefix events) (ask : Command) (at : At) (flow : Flow) (side : ℕ) where
     -- so many events have come
     abbrev come : ℕ
     come = length prefix
@@ -86,7 +87,7 @@ module _ (terms : Terms) (events : List (Timed Event)) (all : List Command) (flo
     answer = record { moment = moment; value = value }
 
     abbrev seen : Sight
-    seen = sight_of (Some side) since opened used prefix
+    seen = sight_of (Some side) since opened used up prefix
 
     abbrev found_answers : Answers
     found_answers = answers_in flow.request seen
@@ -126,12 +127,12 @@ module _ (terms : Terms) (events : List (Timed Event)) (all : List Command) (flo
       interim = interim_commands flow.request found_answers.interim
 
       relayed_led : (head : ReadResponse) → head_in found_answers.final ≡ Some head → is_relayed head.code ≡ true →
-          Leads terms events all flows (turn_answer_head terms at flow side head seen answer) opened leads_head come sent interim
+          Leads terms events all flows (turn_answer_head terms at flow side all_sent head seen answer) opened leads_head come sent interim
           (ask_of (with_answer flow (response_of head) seen.now) ResponseHead) waits rest value replies
       relayed_led head is relays goes =
           let whole = with_answer flow (response_of head) seen.now in
           let asked = ask_of whole ResponseHead in
-          let carried = answers_carried flow.request side opened used since prefix is_front in
+          let carried = answers_carried flow.request side opened used since up prefix is_front in
           let begun = carried.begun (begun_by found_answers.final head is) in
           let there : head_in all_answers.final ≡ Some head = carried.final.head head is in
           let says = says_interim flow.request found_answers.interim in
@@ -144,7 +145,7 @@ module _ (terms : Terms) (events : List (Timed Event)) (all : List Command) (flo
           ∙ (ap (λ (o : Option ReadResponse). interim ++ said_headed flow.request o all_answers.final (behind s.went s.from (dial_answers replies))) there
           ∙ ap (λ b. interim ++ said_relayed b flow.request ends_here) relays)) in
           let P : Option ℕ → Taken Response → Type 0 = λ m t. Leads terms events all flows
-          (turn_taken_answer at whole side m t moment (server_in side seen) seen.closed) opened leads_head come sent interim asked waits rest value replies in
+          (turn_taken_answer at whole side all_sent m t moment (server_in side seen) seen.closed) opened leads_head come sent interim asked waits rest value replies in
           let led : P None (taken.GoesOn (response_of head)) = λ on_it.
           goes_on flows
           (record {
@@ -162,7 +163,7 @@ module _ (terms : Terms) (events : List (Timed Event)) (all : List Command) (flo
 
       head_led : (head : ReadResponse) (relays : Bool) → is_relayed head.code ≡ relays → head_in found_answers.final ≡ Some head →
           or_leaves seen.closed (early flow seen (server_in side seen)) (look_answer_head flow head seen.now (server_in side seen) seen.closed) ≡ Asks ask →
-          Leads terms events all flows (turn_answer_head terms at flow side head seen answer) opened leads_head come sent interim ask waits rest value replies
+          Leads terms events all flows (turn_answer_head terms at flow side all_sent head seen answer) opened leads_head come sent interim ask waits rest value replies
       head_led head false relays is asks =
           let P : Bool → Type 0 = λ b. or_leaves seen.closed (early flow seen (server_in side seen))
           (if not b then Ends (ends_by_fault flow BadResponse seen.now (server_in side seen) seen.closed)
@@ -172,12 +173,12 @@ module _ (terms : Terms) (events : List (Timed Event)) (all : List Command) (flo
           let P : Bool → Type 0 = λ b. or_leaves seen.closed (early flow seen (server_in side seen))
           (if not b then Ends (ends_by_fault flow BadResponse seen.now (server_in side seen) seen.closed)
           else Asks (ask_of (with_answer flow (response_of head) seen.now) ResponseHead)) ≡ Asks ask in
-          let Q : Command → Type 0 = λ c. Leads terms events all flows (turn_answer_head terms at flow side head seen answer) opened leads_head come sent interim c waits rest value replies in
+          let Q : Command → Type 0 = λ c. Leads terms events all flows (turn_answer_head terms at flow side all_sent head seen answer) opened leads_head come sent interim c waits rest value replies in
           subst Q (asks_same _ ask (subst P relays asks)) (relayed_led head is relays)
 
       pub answer_led : (item : Item ReadResponse) → found_answers.final ≡ item →
           or_leaves seen.closed (early flow seen (server_in side seen)) (look_answer flow item seen.now (server_in side seen) seen.closed) ≡ Asks ask →
-          Leads terms events all flows (turn_answer terms at flow side item seen answer) opened leads_head come sent interim ask waits rest value replies
+          Leads terms events all flows (turn_answer terms at flow side all_sent item seen answer) opened leads_head come sent interim ask waits rest value replies
       answer_led missing is asks = absurd (asks_nothing seen.closed _ ask asks)
       answer_led (part head body) is asks = head_led head (is_relayed head.code) refl (ap head_in is) asks
       answer_led (complete head body trailers size) is asks = head_led head (is_relayed head.code) refl (ap head_in is) asks
@@ -191,7 +192,7 @@ module _ (terms : Terms) (events : List (Timed Event)) (all : List Command) (flo
       finished_led : (switches : Bool) (whole : Flow) (response : Response) → (response.status == 101) ≡ switches → whole.request ≡ flow.request →
           ended_there s.went ≡ Some come →
           all ≡ said sent ++ commands.Send Client (returned_text flow.request response) ∷ behind s.went s.from (dial_answers replies) response →
-          Leads terms events all flows (finish_by switches at whole response side (server_in side seen) seen.closed) opened leads_body come sent []
+          Leads terms events all flows (finish_by switches at whole all_sent response side (server_in side seen) seen.closed) opened leads_body come sent []
           (ask_of whole ResponseBody) waits rest value replies
       finished_led true whole response switches request ends is goes =
           let text : Request → Command = λ r. commands.Send Client (returned_text r response) in
@@ -222,34 +223,34 @@ module _ (terms : Terms) (events : List (Timed Event)) (all : List Command) (flo
           let there : all ≡ said (sent ++ more) ++ left_there =
           goes_further all sent more (text flow.request ∷ []) _ left_there is (closes.is ∙ ap (λ r. text r ∷ []) request) (ap (λ l. text flow.request ∷ l) last) in
           let P : ℕ → Type 0 = λ n. all ≡ said (sent ++ more) ++ said_behind stays point (Some come) (further_behind terms events all n used.client) in
-          ending_led terms events all flows (finish_by false at whole response side (server_in side seen) seen.closed) opened leads_body come sent [] (ask_of whole ResponseBody)
+          ending_led terms events all flows (finish_by false at whole all_sent response side (server_in side seen) seen.closed) opened leads_body come sent [] (ask_of whole ResponseBody)
           waits rest replies _ refl closes
           (λ none. by_last stays (unparked at) used s.from opened come (sent ++ more) replies (subst P none there))
           (λ n is. by_stays n stays at used (λ stage. (leads_body stage).server) s.from opened come (sent ++ more) replies (subst P is there)) goes.1
 
       whole_led : (head : ReadResponse) (body : Body) (trailers : List (List ℕ × List ℕ)) (size : ℕ) → found_answers.final ≡ complete head body trailers size →
-          Leads terms events all flows (turn_returned at flow side (complete head body trailers size) seen answer) opened leads_body come sent []
+          Leads terms events all flows (turn_returned at flow side all_sent (complete head body trailers size) seen answer) opened leads_body come sent []
           (ask_of (with_returned flow body.content trailers seen.now) ResponseBody) waits rest value replies
       whole_led head body trailers size is goes =
           let whole = with_returned flow body.content trailers seen.now in
           let served = server_in side seen in
           let response = whole_response s.head body trailers in
-          let carried = answers_carried flow.request side opened used since prefix is_front in
+          let carried = answers_carried flow.request side opened used since up prefix is_front in
           let final : all_answers.final ≡ complete head body trailers size = carried.final.stays (rw is refl) ∙ is in
           let same : Some head ≡ Some s.head = sym (ap head_in final) ∙ s.final in
           let heads : head ≡ s.head = cc in
           let there : whole.response ≡ Some response = ap (λ o. filled o body.content trailers) s.response in
           let takes = takes_response_body whole response value there goes.0 in
-          let one : turn_read_whole at whole side answer served seen.closed ≡ turn_taken_whole at whole side (taken_at_response_body response value) moment served seen.closed =
-          ap (λ o. turn_response o (λ r. taken_at_response_body r value) (λ t. turn_taken_whole at whole side t moment served seen.closed)) there in
-          let two : turn_taken_whole at whole side (taken_at_response_body response value) moment served seen.closed
-          ≡ finish_by (response.status == 101) at whole response side served seen.closed =
-          ap (λ t. turn_taken_whole at whole side t moment served seen.closed) takes in
+          let one : turn_read_whole at whole side all_sent answer served seen.closed ≡ turn_taken_whole at whole side all_sent (taken_at_response_body response value) moment served seen.closed =
+          ap (λ o. turn_response o (λ r. taken_at_response_body r value) (λ t. turn_taken_whole at whole side all_sent t moment served seen.closed)) there in
+          let two : turn_taken_whole at whole side all_sent (taken_at_response_body response value) moment served seen.closed
+          ≡ finish_by (response.status == 101) at whole all_sent response side served seen.closed =
+          ap (λ t. turn_taken_whole at whole side all_sent t moment served seen.closed) takes in
           let P : Turn Stage Command → Type 0 = λ t. Leads terms events all flows t opened leads_body come sent [] (ask_of whole ResponseBody) waits rest value replies in
           let test = response_is_whole events side opened used.server (is_head flow.request.method) in
           let here : test come ≡ true =
           ap (λ (answers : Answers). is_whole answers.final)
-          (sym (answers_same flow.request side opened used since prefix (take (length prefix) events) (same_taken prefix events is_front)))
+          (sym (answers_same flow.request side opened used since up prefix (take (length prefix) events) (same_taken prefix events is_front)))
           ∙ ap is_whole is in
           let ends = least_at test s.went come (length events) s.onward.within (front_length prefix events is_front) s.onward.waits here in
           let rest_is : all ≡ said sent ++ commands.Send Client (returned_text flow.request response) ∷ behind s.went s.from (dial_answers replies) response =
@@ -260,11 +261,11 @@ module _ (terms : Terms) (events : List (Timed Event)) (all : List Command) (flo
 
       pub returned_led : (item : Item ReadResponse) → found_answers.final ≡ item →
           or_leaves seen.closed (early (without_response flow) seen (server_in side seen)) (look_returned flow item seen.now (server_in side seen) seen.closed) ≡ Asks ask →
-          Leads terms events all flows (turn_returned at flow side item seen answer) opened leads_body come sent [] ask waits rest value replies
+          Leads terms events all flows (turn_returned at flow side all_sent item seen answer) opened leads_body come sent [] ask waits rest value replies
       returned_led missing is asks = absurd (asks_nothing seen.closed _ ask asks)
       returned_led (part head body) is asks = absurd (asks_nothing seen.closed _ ask asks)
       returned_led (complete head body trailers size) is asks =
-          let P : Command → Type 0 = λ c. Leads terms events all flows (turn_returned at flow side (complete head body trailers size) seen answer) opened leads_body come sent [] c waits rest value replies in
+          let P : Command → Type 0 = λ c. Leads terms events all flows (turn_returned at flow side all_sent (complete head body trailers size) seen answer) opened leads_body come sent [] c waits rest value replies in
           subst P (asks_same _ ask asks) (whole_led head body trailers size is)
       returned_led (bad_head fault) is asks = absurd (asks_nothing seen.closed _ ask asks)
       returned_led (bad_body fault head body) is asks = absurd (ends_ask _ ask asks)

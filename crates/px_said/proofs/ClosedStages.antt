@@ -19,8 +19,9 @@ use Rattle.px_exchange.specs.declared.terms.Terms.{Terms}
 use Rattle.px_exchange.specs.Flows.{response_of}
 use Rattle.px_exchange.specs.Requests.{is_head, judged}
 use Rattle.px_said.specs.ClosedForm.{Point, answers_at, dial_answers, request_is_whole, request_items, response_is_whole, said, said_answers, said_by, said_from, said_on, said_returned, said_whole}
-use Rattle.px_chain.specs.Sights.{UsedBytes, used_behind}
-use Rattle.px_chain.specs.Stages.{At, Doing, Stage, busy, connection, idle, next, over, request_body, response_body, response_head, side_parked, unparked, upgraded}
+use Rattle.px_chain.specs.Behind.{used_behind}
+use Rattle.px_chain.specs.Sights.{UsedBytes}
+use Rattle.px_chain.specs.Stages.{At, Doing, Stage, all_sent, busy, connection, idle, next, over, request_body, response_body, response_head, side_parked, unparked, upgraded}
 use Rattle.px_chain.specs.Streams.{bytes_of}
 use Rattle.px_said.proofs.ClosedFronts.{Waits}
 use Rattle.px_said.proofs.ClosedItems.{items_after}
@@ -132,10 +133,10 @@ module _ (terms : Terms) (events : List (Timed Event)) (all : List Command) wher
       pub is_all : all ≡ said sent
 
     abbrev pub IsDoing : At → Flow → Doing → ℕ → UsedBytes → ℕ → List Command → List Reply → Type 0
-    IsDoing at flow (request_body None) opened used come sent left = Begun at flow.request opened used come sent left
-    IsDoing at flow connection opened used come sent left = Connecting at flow.request opened used come sent left
-    IsDoing at flow (response_head side how) opened used come sent left = Answering at flow.request side opened used come sent left
-    IsDoing at flow (response_body side how None) opened used come sent left = Returning at flow side opened used come sent left
+    IsDoing at flow (request_body None None) opened used come sent left = Begun at flow.request opened used come sent left
+    IsDoing at flow (connection all_sent) opened used come sent left = Connecting at flow.request opened used come sent left
+    IsDoing at flow (response_head side all_sent) opened used come sent left = Answering at flow.request side opened used come sent left
+    IsDoing at flow (response_body side all_sent None) opened used come sent left = Returning at flow side opened used come sent left
     IsDoing at flow (upgraded side) opened used come sent left = Ended sent
     IsDoing at flow _ opened used come sent left = ⊥
 

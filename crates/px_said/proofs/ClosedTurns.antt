@@ -30,16 +30,18 @@ use Rattle.px_exchange.specs.declared.terms.Terms.{Terms}
 use Rattle.px_exchange.specs.Endings.{ends_by_fault, shut_server}
 use Rattle.px_exchange.specs.Finds.{look_body, look_head, look_judged, or_leaves}
 use Rattle.px_exchange.specs.Flows.{ask_of, with_body}
+use Rattle.px_exchange.specs.Replies.{taken_at_request_head}
 use Rattle.px_exchange.specs.Requests.{expects, flow_of, is_head, judged}
 use Rattle.px_exchange.specs.Texts.{meets_expectation, onward_text}
 use Rattle.px_chain.specs.Chain.{goes_on_by, parked_for, sequence, turn_body, turn_dial, turn_head, turn_judged, turn_taken_body, turn_taken_head}
 use Rattle.px_said.specs.ClosedForm.{GoesOn, request_items, behind_request, connected_at, dial_answers, fault_said, first_flows, flows_behind, is_whole, request_is_whole, said, said_answers, said_by, said_connected, said_from, said_of, said_on, said_whole}
-use Rattle.px_chain.specs.Sights.{Sight, UsedBytes, request_in, server_parked, sight_of, used_behind, used_by_turn, used_with}
-use Rattle.px_chain.specs.Stages.{At, Parked, Stage, busy, idle, request_body, side_of, side_parked, unparked}
+use Rattle.px_chain.specs.Behind.{used_behind, used_by_turn}
+use Rattle.px_chain.specs.Sights.{Sight, UsedBytes, request_in, server_parked, sight_of, used_with}
+use Rattle.px_chain.specs.Stages.{At, Parked, Stage, all_sent, busy, idle, request_body, side_of, side_parked, unparked}
 use Rattle.px_chain.specs.Streams.{Since, bytes_of}
 use Rattle.px_said.proofs.ClosedFronts.{IsFront, drop_on, front_length, least_at, same_bytes, same_taken, side_grows}
 use Rattle.px_said.proofs.ClosedItems.{after_on, items_after, opening_on}
-use Rattle.px_said.proofs.ClosedQuiet.{SaysLast, goes_behind, no_dial, said_join, says_expectation, says_fault, says_last_behind, says_sent, says_server, takes_request_body, takes_request_head}
+use Rattle.px_said.proofs.ClosedQuiet.{SaysLast, allows_up_none, goes_behind, no_dial, said_join, says_expectation, says_fault, says_last_behind, says_sent, says_server, takes_request_body, takes_request_head}
 use Rattle.px_said.proofs.ClosedStages.{Begun, Between, Connecting, IsAt, all_bytes, further_after, further_behind, goes_further, items_behind, none_used, standing, told}
 
 -- ---- nothing asked
@@ -156,7 +158,7 @@ module _ (terms : Terms) (events : List (Timed Event)) (all : List Command) wher
       subst P (sym (ap (drop used) grows.grown ∙ on.1)) (request_carries chunk_laws (drop used bytes) on.0)
 
   module _ (flows : ℕ) (sent : List Command) (moment : ℕ) (value : Reply) (waits : Bool) (rest : List Command) (replies : List Reply)
-      (since : Since) (opened : ℕ) (used : UsedBytes) (prefix : List (Timed Event)) (is_front : IsFront prefix events) (ask : Command) (leaving : List Command) (at : At) where
+      (since : Since) (opened : ℕ) (used : UsedBytes) (up : ℕ) (prefix : List (Timed Event)) (is_front : IsFront prefix events) (ask : Command) (leaving : List Command) (at : At) where
     abbrev answer : Timed Reply
     answer = record { moment = moment; value = value }
 
@@ -166,7 +168,7 @@ module _ (terms : Terms) (events : List (Timed Event)) (all : List Command) wher
 
     -- while no flow uses a server's side
     abbrev seen : Sight
-    seen = sight_of (side_parked at.parked) since opened used prefix
+    seen = sight_of (side_parked at.parked) since opened used up prefix
 
     abbrev parked : Used
     parked = server_parked at.parked seen
@@ -198,8 +200,8 @@ module _ (terms : Terms) (events : List (Timed Event)) (all : List Command) wher
         let whole : ℕ → List (Option Fault) → List Command = λ n d.
         said_whole terms events (record (standing at opened used b.from d) { used = n }) message (request_item bytes) (further_after terms events all flows used.client) in
         let opening = opening_on terms events (standing at opened used b.from (dial_answers left)) flows bytes head message there accepted in
-        let P : Taken Request → Type 0 = λ t. Leads flows (turn_taken_head at flow (expects head) t moment seen) opened leads_on come sent [] asked waits rest value replies in
-        let led : P (taken.GoesOn message) = λ on.
+        let P : Option ℕ → Taken Request → Type 0 = λ m t. Leads flows (turn_taken_head at flow (expects head) m t moment seen) opened leads_on come sent [] asked waits rest value replies in
+        let led : P None (taken.GoesOn message) = λ on.
         goes_on flows
         (record {
           from = b.from;
@@ -215,7 +217,8 @@ module _ (terms : Terms) (events : List (Timed Event)) (all : List Command) wher
         })
         (meets.keeps flows rest)
         (goes_behind (meets_expectation (expects head)) (meets_expectation (expects head)) meets waits flows rest replies on.1) in
-        subst P (sym (takes_request_head flow value goes.0)) led goes
+        let taken_so : P None (taken_at_request_head message value) = subst (λ t. P None t) (sym (takes_request_head flow value goes.0)) led in
+        subst (λ m. P m (taken_at_request_head message value)) (sym (allows_up_none terms.streams flow value goes.0)) taken_so goes
 
     judged_led : (head : ReadRequest) (made : Judged) → judged terms.place head ≡ made → Between terms events all flows at opened used come sent left →
         head_in (request_item (drop used.client (all_bytes terms events all))) ≡ Some head →
@@ -246,7 +249,7 @@ module _ (terms : Terms) (events : List (Timed Event)) (all : List Command) wher
     behind_item item stage = record { client = used_with item used.client; server = used_behind false (side_of stage) used.server }
 
     abbrev behind_body : Flow → Stage → UsedBytes
-    behind_body flow stage = used_by_turn (busy at flow (request_body None)) seen used stage
+    behind_body flow stage = used_by_turn (busy at flow (request_body None None)) seen used stage
 
     whole_there : (flow : Flow) (head : ReadRequest) (body : Body) (trailers : List (List ℕ × List ℕ)) (size : ℕ) →
         request_in seen ≡ complete head body trailers size → Begun terms events all flows at flow.request opened used come sent left →
@@ -308,7 +311,7 @@ module _ (terms : Terms) (events : List (Timed Event)) (all : List Command) wher
 
     -- what the answer of a dial brings, behind the close of the parked side
     abbrev dial_turned : Flow → Reply → Turn Stage Command
-    dial_turned flow answered = behind_these (shut_server parked) (turn_dial terms.place at flow (record { moment = moment; value = answered }) seen.closed)
+    dial_turned flow answered = behind_these (shut_server parked) (turn_dial terms.place at flow all_sent (record { moment = moment; value = answered }) seen.closed)
 
     -- of the new side no byte was used
     abbrev behind_dial : Stage → UsedBytes

@@ -13,21 +13,24 @@ use Rattle.px_event.proofs.Reach.{reach_all, reach_values}
 use Rattle.px_event.proofs.Walk.{walk_on}
 use Rattle.px_exchange.specs.EndOrder.{FoundInOrder, OnlyCloses}
 use Rattle.px_exchange.specs.declared.terms.Terms.{Terms}
-use Rattle.px_chain.specs.Chain.{behind, http_chain, leaving, look, opened_by, pass, sequence, so_far, turn, used_by_pass, goes_to, pass_kept, used_by_kept}
+use Rattle.px_chain.specs.Behind.{dials_at, used_by_turn}
+use Rattle.px_chain.specs.Chain.{behind, come_down, end_up, goes_to, http_chain, leaving, look, opened_by, pass, pass_going, pass_kept, sequence, sight_ended, so_far, turn, used_by_coming, used_by_end, used_by_kept, used_by_pass}
 use Rattle.px_said.specs.ClosedForm.{GoesOn, first_flows, flows_behind, said, said_of_flows}
-use Rattle.px_chain.specs.Sights.{Sight, Standing, UsedBytes, answers_in, dials_at, request_in, sight_of, sight_over, used_by_turn}
-use Rattle.px_chain.specs.Stages.{At, Stage, busy, connection, given_body, given_head, idle, next, over, request_body, response_body, response_head, side_of, side_parked, upgraded, coming_down}
+use Rattle.px_chain.specs.Sights.{Sight, Standing, UsedBytes, answers_in, request_in, sight_of, sight_over}
+use Rattle.px_chain.specs.Stages.{At, Stage, all_sent, busy, connection, given_body, given_head, going_up, idle, next, over, request_body, response_body, response_head, side_of, side_parked, upgraded, coming_down}
 use Rattle.px_chain.specs.Streams.{Since, client_closed}
 use Rattle.px_said.specs.Walks.{Walk, answered, due_from, heard, point_at}
 use Rattle.px_said.proofs.ClosedExact.{stage_more, stage_stood}
 use Rattle.px_said.proofs.ClosedFronts.{IsFront, IsSame, front_of, same_of, still_open}
 use Rattle.px_said.proofs.ClosedLooks.{IsLast}
-use Rattle.px_said.proofs.ClosedQuiet.{Keeps, Skips, closes_said, end_said, said_join, says_interim, streams_none}
+use Rattle.px_said.proofs.ClosedQuiet.{Keeps, Skips, closes_said, end_said, said_join, begins_none, says_interim, streams_none}
 use Rattle.px_said.proofs.ClosedReturns.{answer_led, returned_led}
 use Rattle.px_said.proofs.ClosedStages.{IsAt}
 use Rattle.px_said.proofs.ClosedTurns.{Leads, Led, behind_these, body_led, dial_led, ends_ask, goes_on, has_ended, idle_led}
 use Rattle.px_chain.proofs.EndLemmas.{behind_closes, looks_in_order}
 use Rattle.px_chain.specs.Coming.{came_in, streaming}
+use Rattle.px_chain.specs.Going.{sends_going}
+use Rattle.px_chain.proofs.ChainLaws.{behind_turn}
 
 -- ---- what was owed before is owed in front
 
@@ -79,32 +82,37 @@ module _ {S E R A : Type 0} (chain : Chain S E R A) (a : List A) where
 
 -- ---- a stage of the conversation
 
-so_far_skips : (stage : Stage) (seen : Sight) → Skips (so_far stage seen)
-so_far_skips (idle at) seen may_wait rest replies goes = goes
-so_far_skips (busy at flow (request_body given)) seen may_wait rest replies goes = goes
-so_far_skips (busy at flow connection) seen may_wait rest replies goes = goes
-so_far_skips (busy at flow (response_head side how)) seen may_wait rest replies goes =
-    (says_interim flow.request (answers_in flow.request seen).interim).skips may_wait rest replies goes
-so_far_skips (busy at flow (response_body side how most)) seen may_wait rest replies goes = goes
-so_far_skips (busy at flow (coming_down side how)) seen may_wait rest replies goes = goes
-so_far_skips (busy at flow (upgraded side)) seen may_wait rest replies goes = goes
-so_far_skips (busy at flow given_head) seen may_wait rest replies goes = goes
-so_far_skips (busy at flow given_body) seen may_wait rest replies goes = goes
-so_far_skips (next at) seen may_wait rest replies goes = goes
-so_far_skips over seen may_wait rest replies goes = goes
+so_far_skips : (terms : Terms) (stage : Stage) (seen : Sight) → Skips (so_far terms stage seen)
+so_far_skips terms (idle at) seen may_wait rest replies goes = goes
+so_far_skips terms (busy at flow (request_body given most)) seen may_wait rest replies goes = goes
+so_far_skips terms (busy at flow (connection how)) seen may_wait rest replies goes = goes
+so_far_skips terms (busy at flow (response_head side all_sent)) seen may_wait rest replies goes = (says_interim flow.request (answers_in flow.request seen).interim).skips may_wait rest replies goes
+so_far_skips terms (busy at flow (response_head side going_up)) seen may_wait rest replies goes = (says_interim flow.request (answers_in flow.request seen).interim).skips may_wait rest replies goes
+so_far_skips terms (busy at flow (response_body side all_sent most)) seen may_wait rest replies goes = goes
+so_far_skips terms (busy at flow (response_body side going_up most)) seen may_wait rest replies goes = goes
+so_far_skips terms (busy at flow (coming_down side all_sent)) seen may_wait rest replies goes = goes
+so_far_skips terms (busy at flow (coming_down side going_up)) seen may_wait rest replies goes = goes
+so_far_skips terms (busy at flow (upgraded side)) seen may_wait rest replies goes = goes
+so_far_skips terms (busy at flow given_head) seen may_wait rest replies goes = goes
+so_far_skips terms (busy at flow given_body) seen may_wait rest replies goes = goes
+so_far_skips terms (next at) seen may_wait rest replies goes = goes
+so_far_skips terms over seen may_wait rest replies goes = goes
 
-so_far_keeps : (stage : Stage) (seen : Sight) → Keeps (so_far stage seen)
-so_far_keeps (idle at) seen more rest = refl
-so_far_keeps (busy at flow (request_body given)) seen more rest = refl
-so_far_keeps (busy at flow connection) seen more rest = refl
-so_far_keeps (busy at flow (response_head side how)) seen more rest = (says_interim flow.request (answers_in flow.request seen).interim).keeps more rest
-so_far_keeps (busy at flow (response_body side how most)) seen more rest = refl
-so_far_keeps (busy at flow (coming_down side how)) seen more rest = refl
-so_far_keeps (busy at flow (upgraded side)) seen more rest = refl
-so_far_keeps (busy at flow given_head) seen more rest = refl
-so_far_keeps (busy at flow given_body) seen more rest = refl
-so_far_keeps (next at) seen more rest = refl
-so_far_keeps over seen more rest = refl
+so_far_keeps : (terms : Terms) (stage : Stage) (seen : Sight) → Keeps (so_far terms stage seen)
+so_far_keeps terms (idle at) seen more rest = refl
+so_far_keeps terms (busy at flow (request_body given most)) seen more rest = refl
+so_far_keeps terms (busy at flow (connection how)) seen more rest = refl
+so_far_keeps terms (busy at flow (response_head side all_sent)) seen more rest = (says_interim flow.request (answers_in flow.request seen).interim).keeps more rest
+so_far_keeps terms (busy at flow (response_head side going_up)) seen more rest = ap (λ l. sends_going terms.place flow side seen ++ l) ((says_interim flow.request (answers_in flow.request seen).interim).keeps more rest)
+so_far_keeps terms (busy at flow (response_body side all_sent most)) seen more rest = refl
+so_far_keeps terms (busy at flow (response_body side going_up most)) seen more rest = refl
+so_far_keeps terms (busy at flow (coming_down side all_sent)) seen more rest = refl
+so_far_keeps terms (busy at flow (coming_down side going_up)) seen more rest = refl
+so_far_keeps terms (busy at flow (upgraded side)) seen more rest = refl
+so_far_keeps terms (busy at flow given_head) seen more rest = refl
+so_far_keeps terms (busy at flow given_body) seen more rest = refl
+so_far_keeps terms (next at) seen more rest = refl
+so_far_keeps terms over seen more rest = refl
 
 -- what is found says the same up to the end of a flow, and the closes behind an ask say nothing
 found_said : (more : ℕ) (parts : List Command) (l : Look Command) → OnlyCloses parts → FoundInOrder l → said (first_flows (suc more) (found_with parts l)) ≡ said (found l)
@@ -126,22 +134,37 @@ module _ (terms : Terms) (events : List (Timed Event)) (all : List Command) wher
   module _ (flows : ℕ) where
     -- a stage at which it may stand does not pass
     record Stays (stage : Stage) (seen : Sight) : Type 0 where
-      goes : pass stage seen ≡ goes_to stage
-      uses : (used : UsedBytes) → used_by_pass stage seen used ≡ used
+      goes : pass terms stage seen ≡ goes_to stage
+      uses : (used : UsedBytes) → used_by_pass terms stage seen used ≡ used
       onward : sequence stage ≡ stage
+
+    -- what passes behind where a request began to go up, and what is used then
+    abbrev behind_begun : Stage → Sight → Turn Stage Command
+    behind_begun to seen = behind_turn (end_up terms to seen) (come_down terms (end_up terms to seen).stage (sight_ended to seen))
+
+    abbrev used_behind_begun : Stage → Sight → UsedBytes → UsedBytes
+    used_behind_begun to seen used = used_by_coming (end_up terms to seen).stage (sight_ended to seen) (used_by_end to seen used)
 
     stays_at : (stage : Stage) (seen : Sight) (opened : ℕ) (used : UsedBytes) (come : ℕ) (sent : List Command) (left : List Reply) → IsAt terms events all flows stage opened used come sent left → Stays stage seen
     stays_at (idle at) seen opened used come sent left is = record { goes = refl; uses = λ used. refl; onward = refl }
-    stays_at (busy at flow (request_body None)) seen opened used come sent left is = record { goes = refl; uses = λ used. refl; onward = refl }
-    stays_at (busy at flow (request_body (Some response))) seen opened used come sent left is = absurd is
-    stays_at (busy at flow connection) seen opened used come sent left is = record { goes = refl; uses = λ used. refl; onward = refl }
-    stays_at (busy at flow (response_head side how)) seen opened used come sent left is = record { goes = refl; uses = λ used. refl; onward = refl }
-    stays_at (busy at flow (response_body side how None)) seen opened used come sent left is = record {
-      goes = ap (λ b. pass_kept b at flow side how None seen) (streams_none flow seen);
+    stays_at (busy at flow (request_body None None)) seen opened used come sent left is = record {
+      goes = ap (λ b. behind_begun (pass_going b terms.place at flow None) seen) (begins_none terms.place at flow seen);
+      uses = λ used. ap (λ b. used_behind_begun (pass_going b terms.place at flow None) seen used) (begins_none terms.place at flow seen);
+      onward = refl;
+    }
+    stays_at (busy at flow (request_body None (Some most))) seen opened used come sent left is = absurd is
+    stays_at (busy at flow (request_body (Some response) most)) seen opened used come sent left is = absurd is
+    stays_at (busy at flow (connection all_sent)) seen opened used come sent left is = record { goes = refl; uses = λ used. refl; onward = refl }
+    stays_at (busy at flow (connection going_up)) seen opened used come sent left is = absurd is
+    stays_at (busy at flow (response_head side all_sent)) seen opened used come sent left is = record { goes = refl; uses = λ used. refl; onward = refl }
+    stays_at (busy at flow (response_head side going_up)) seen opened used come sent left is = absurd is
+    stays_at (busy at flow (response_body side all_sent None)) seen opened used come sent left is = record {
+      goes = ap (λ b. behind_turn (goes_to (busy at flow (response_body side all_sent None))) (pass_kept b terms.place at flow side all_sent None seen)) (streams_none flow seen);
       uses = λ used. ap (λ b. used_by_kept b (came_in (streaming flow) seen) used) (streams_none flow seen);
       onward = refl;
     }
-    stays_at (busy at flow (response_body side how (Some most))) seen opened used come sent left is = absurd is
+    stays_at (busy at flow (response_body side all_sent (Some most))) seen opened used come sent left is = absurd is
+    stays_at (busy at flow (response_body side going_up most)) seen opened used come sent left is = absurd is
     stays_at (busy at flow (coming_down side how)) seen opened used come sent left is = absurd is
     stays_at (busy at flow (upgraded side)) seen opened used come sent left is = record { goes = refl; uses = λ used. refl; onward = refl }
     stays_at (busy at flow given_head) seen opened used come sent left is = absurd is
@@ -149,36 +172,40 @@ module _ (terms : Terms) (events : List (Timed Event)) (all : List Command) wher
     stays_at (next at) seen opened used come sent left is = absurd is
     stays_at over seen opened used come sent left is = record { goes = refl; uses = λ used. refl; onward = refl }
 
-    stage_led : (stage : Stage) (since : Since) (opened : ℕ) (used : UsedBytes) (prefix : List (Timed Event)) → IsFront prefix events → (sent : List Command) (replies : List Reply) (value : Reply) →
+    stage_led : (stage : Stage) (since : Since) (opened : ℕ) (used : UsedBytes) (up : ℕ) (prefix : List (Timed Event)) → IsFront prefix events → (sent : List Command) (replies : List Reply) (value : Reply) →
         IsAt terms events all flows stage opened used (length prefix) sent (value ∷ replies) → (moment : ℕ) (ask : Command) (may_wait : Bool) (rest : List Command) →
-        let seen = sight_of (side_of stage) since opened used prefix in
+        let seen = sight_of (side_of stage) since opened used up prefix in
         look terms stage seen ≡ Asks ask →
         let turned = turn terms stage seen (record { moment = moment; value = value }) in
-        Leads terms events all flows (behind_these (behind stage seen) turned) (opened_by (dials_at stage) opened (length prefix)) (used_by_turn stage seen used) (length prefix) sent (so_far stage seen) ask
+        Leads terms events all flows (behind_these (behind stage seen) turned) (opened_by (dials_at stage) opened (length prefix)) (used_by_turn stage seen used) (length prefix) sent (so_far terms stage seen) ask
         may_wait rest value replies
-    stage_led (idle at) since opened used prefix is sent replies value stands moment ask may_wait rest asks =
-        let seen = sight_of (side_parked at.parked) since opened used prefix in
-        idle_led terms events all flows sent moment value may_wait rest replies since opened used prefix is ask (leaving (idle at) seen) at (request_in seen) refl stands asks
-    stage_led (busy at flow (request_body None)) since opened used prefix is sent replies value stands moment ask may_wait rest asks =
-        let seen = sight_of (side_parked at.parked) since opened used prefix in
-        body_led terms events all flows sent moment value may_wait rest replies since opened used prefix is ask (leaving (busy at flow (request_body None)) seen) at flow
+    stage_led (idle at) since opened used up prefix is sent replies value stands moment ask may_wait rest asks =
+        let seen = sight_of (side_parked at.parked) since opened used up prefix in
+        idle_led terms events all flows sent moment value may_wait rest replies since opened used up prefix is ask (leaving (idle at) seen) at (request_in seen) refl stands asks
+    stage_led (busy at flow (request_body None (Some most))) since opened used up prefix is sent replies value stands moment ask may_wait rest asks = absurd stands
+    stage_led (busy at flow (request_body None None)) since opened used up prefix is sent replies value stands moment ask may_wait rest asks =
+        let seen = sight_of (side_parked at.parked) since opened used up prefix in
+        body_led terms events all flows sent moment value may_wait rest replies since opened used up prefix is ask (leaving (busy at flow (request_body None None)) seen) at flow
         (request_in seen) refl stands asks
-    stage_led (busy at flow (request_body (Some response))) since opened used prefix is sent replies value stands moment ask may_wait rest asks = absurd stands
-    stage_led (busy at flow connection) since opened used prefix is sent replies value stands moment ask may_wait rest asks =
-        dial_led terms events all flows sent moment value may_wait rest replies since opened used prefix is ask [] at flow stands asks
-    stage_led (busy at flow (response_head side how)) since opened used prefix is sent replies value stands moment ask may_wait rest asks =
-        answer_led terms events all flows sent moment value may_wait rest replies since opened used prefix is ask at flow side stands
-        (answers_in flow.request (sight_of (Some side) since opened used prefix)).final refl asks
-    stage_led (busy at flow (response_body side how None)) since opened used prefix is sent replies value stands moment ask may_wait rest asks =
-        returned_led terms events all flows sent moment value may_wait rest replies since opened used prefix is ask at flow side stands
-        (answers_in flow.request (sight_of (Some side) since opened used prefix)).final refl asks
-    stage_led (busy at flow (response_body side how (Some most))) since opened used prefix is sent replies value stands moment ask may_wait rest asks = absurd stands
-    stage_led (busy at flow (coming_down side how)) since opened used prefix is sent replies value stands moment ask may_wait rest asks = absurd stands
-    stage_led (busy at flow (upgraded side)) since opened used prefix is sent replies value stands moment ask may_wait rest asks = absurd (ends_ask [] ask asks)
-    stage_led (busy at flow given_head) since opened used prefix is sent replies value stands moment ask may_wait rest asks = absurd stands
-    stage_led (busy at flow given_body) since opened used prefix is sent replies value stands moment ask may_wait rest asks = absurd stands
-    stage_led (next at) since opened used prefix is sent replies value stands moment ask may_wait rest asks = absurd (ends_ask [] ask asks)
-    stage_led over since opened used prefix is sent replies value stands moment ask may_wait rest asks = absurd (ends_ask [] ask asks)
+    stage_led (busy at flow (request_body (Some response) most)) since opened used up prefix is sent replies value stands moment ask may_wait rest asks = absurd stands
+    stage_led (busy at flow (connection going_up)) since opened used up prefix is sent replies value stands moment ask may_wait rest asks = absurd stands
+    stage_led (busy at flow (connection all_sent)) since opened used up prefix is sent replies value stands moment ask may_wait rest asks =
+        dial_led terms events all flows sent moment value may_wait rest replies since opened used up prefix is ask [] at flow stands asks
+    stage_led (busy at flow (response_head side going_up)) since opened used up prefix is sent replies value stands moment ask may_wait rest asks = absurd stands
+    stage_led (busy at flow (response_head side all_sent)) since opened used up prefix is sent replies value stands moment ask may_wait rest asks =
+        answer_led terms events all flows sent moment value may_wait rest replies since opened used up prefix is ask at flow side stands
+        (answers_in flow.request (sight_of (Some side) since opened used up prefix)).final refl asks
+    stage_led (busy at flow (response_body side going_up most)) since opened used up prefix is sent replies value stands moment ask may_wait rest asks = absurd stands
+    stage_led (busy at flow (response_body side all_sent None)) since opened used up prefix is sent replies value stands moment ask may_wait rest asks =
+        returned_led terms events all flows sent moment value may_wait rest replies since opened used up prefix is ask at flow side stands
+        (answers_in flow.request (sight_of (Some side) since opened used up prefix)).final refl asks
+    stage_led (busy at flow (response_body side all_sent (Some most))) since opened used up prefix is sent replies value stands moment ask may_wait rest asks = absurd stands
+    stage_led (busy at flow (coming_down side how)) since opened used up prefix is sent replies value stands moment ask may_wait rest asks = absurd stands
+    stage_led (busy at flow (upgraded side)) since opened used up prefix is sent replies value stands moment ask may_wait rest asks = absurd (ends_ask [] ask asks)
+    stage_led (busy at flow given_head) since opened used up prefix is sent replies value stands moment ask may_wait rest asks = absurd stands
+    stage_led (busy at flow given_body) since opened used up prefix is sent replies value stands moment ask may_wait rest asks = absurd stands
+    stage_led (next at) since opened used up prefix is sent replies value stands moment ask may_wait rest asks = absurd (ends_ask [] ask asks)
+    stage_led over since opened used up prefix is sent replies value stands moment ask may_wait rest asks = absurd (ends_ask [] ask asks)
 
   -- ---- the walk
 
@@ -220,12 +247,12 @@ module _ (terms : Terms) (events : List (Timed Event)) (all : List Command) wher
   not_passed : (flows : ℕ) (s : Standing) (f : List (Timed Event)) (come : ℕ) (sent : List Command) (left : List Reply) → Stands flows s come sent left → NotPassed s f
   not_passed flows s f come sent left is =
       let seen : Sight = sight_over s f in
-      let used : UsedBytes = used_by_pass s.stage seen s.used in
+      let used : UsedBytes = used_by_pass terms s.stage seen s.used in
       let stays = stays_at flows s.stage seen s.opened s.used come sent left is in
       let first = ap (λ t. sequence t.stage) stays.goes ∙ stays.onward in
       let more = stays.uses s.used in
       record {
-        same = λ i. record { stage = first i; since = s.since; opened = s.opened; used = more i };
+        same = λ i. record { stage = first i; since = s.since; opened = s.opened; used = more i; told = s.told };
         owes = ap (λ t. t.owed) stays.goes;
       }
 
@@ -246,7 +273,7 @@ module _ (terms : Terms) (events : List (Timed Event)) (all : List Command) wher
       let P : ℕ → Type 0 = λ n. Stands flows on n sent left in
       reach_by_kept flows (chain.look on f) _ _ sent left
       (λ found_none. reach_kept flows last (before ++ (chain.pass s f).owed) on (f ++ worked_off last e ∷ []) es sent left still (all_on last f e es whole)
-      (subst P longer (stage_more terms events all flows on.stage on.since on.opened on.used sent left f (front_in f (e ∷ es) whole) found_none passed)))
+      (subst P longer (stage_more terms events all flows on.stage on.since on.opened on.used on.told sent left f (front_in f (e ∷ es) whole) found_none passed)))
       (record { none = still; place = passed })
 
   -- what is said there begins all that is said, and is all of it where nothing more can come
@@ -264,11 +291,11 @@ module _ (terms : Terms) (events : List (Timed Event)) (all : List Command) wher
 
   -- what a stage owes says the same up to the end of a flow
   owed_said : (flows : ℕ) (stage : Stage) (seen : Sight) →
-      said (first_flows (suc flows) (so_far stage seen ++ found_with (behind stage seen) (look terms stage seen))) ≡ said (so_far stage seen ++ found (look terms stage seen))
+      said (first_flows (suc flows) (so_far terms stage seen ++ found_with (behind stage seen) (look terms stage seen))) ≡ said (so_far terms stage seen ++ found (look terms stage seen))
   owed_said flows stage seen =
-      let waits = so_far stage seen in
+      let waits = so_far terms stage seen in
       let finds = found_with (behind stage seen) (look terms stage seen) in
-      ap said (so_far_keeps stage seen flows finds)
+      ap said (so_far_keeps terms stage seen flows finds)
       ∙ (said_join waits (first_flows (suc flows) finds)
       ∙ (ap (λ l. said waits ++ l) (found_said flows (behind stage seen) (look terms stage seen) (behind_closes stage seen) (looks_in_order terms stage seen))
       ∙ sym (said_join waits (found (look terms stage seen)))))
@@ -280,7 +307,7 @@ module _ (terms : Terms) (events : List (Timed Event)) (all : List Command) wher
   there_sent flows may_wait last here unused sent left kept whole none asked =
       let place = here.stage in
       let front = front_in here.prefix here.rest whole in
-      let stood = stage_stood terms events all flows place.stage place.since place.opened place.used (length here.prefix) sent left here.prefix kept.place front in
+      let stood = stage_stood terms events all flows place.stage place.since place.opened place.used place.told (length here.prefix) sent left here.prefix kept.place front in
       let owed = chain.so_far place here.prefix ++ found_at chain place here.prefix in
       let says = said (chain.so_far place here.prefix ++ found (chain.look place here.prefix)) in
       let joined : said (sent ++ first_flows (suc flows) owed) ≡ said sent ++ says =
@@ -322,9 +349,9 @@ module _ (terms : Terms) (events : List (Timed Event)) (all : List Command) wher
       let L : Look Command → Type 0 = λ l. P false [] l in
       let G : List Command → Type 0 = λ l. GoesOn false l [] in
       let tail = first_flows (flows_behind flows ask) parts in
-      let question : GoesOn false (so_far_there ++ (ask ∷ tail)) [] = subst G (so_far_keeps place.stage seen flows (ask ∷ parts)) (subst L asks (subst N kept.none (subst B strict goes))) in
-      (stage_stood terms events all flows place.stage place.since place.opened place.used (length here.prefix) sent left here.prefix kept.place front).here.asks ask asks
-      (waits_alone ask tail (so_far_skips place.stage seen false (ask ∷ tail) [] question))
+      let question : GoesOn false (so_far_there ++ (ask ∷ tail)) [] = subst G (so_far_keeps terms place.stage seen flows (ask ∷ parts)) (subst L asks (subst N kept.none (subst B strict goes))) in
+      (stage_stood terms events all flows place.stage place.since place.opened place.used place.told (length here.prefix) sent left here.prefix kept.place front).here.asks ask asks
+      (waits_alone ask tail (so_far_skips terms place.stage seen false (ask ∷ tail) [] question))
 
   -- where a reply led
   led_result : (flows : ℕ) (turned : Turn Stage Command) (opened : ℕ) (used : Stage → UsedBytes) (come : ℕ) (sent so_far : List Command) (ask : Command) (may_wait : Bool) (rest : List Command)
@@ -371,12 +398,12 @@ module _ (terms : Terms) (events : List (Timed Event)) (all : List Command) wher
       let left_there = first_flows (flows_behind flows ask) (brought ++ tail) in
       let cut : first_flows (suc flows) (owed_at chain (walk chain rs r.stamp (here.before ++ more) on.stage here.prefix here.rest)) ≡ so_far_there ++ (ask ∷ left_there) =
       ap (first_flows (suc flows)) (split ∙ append_assoc so_far_there (ask ∷ brought) tail)
-      ∙ so_far_keeps here.stage.stage (sight_over here.stage here.prefix) flows (ask ∷ (brought ++ tail)) in
+      ∙ so_far_keeps terms here.stage.stage (sight_over here.stage here.prefix) flows (ask ∷ (brought ++ tail)) in
       let G : List Command → Type 0 = λ l. GoesOn may_wait l (r.value ∷ replies) in
       let question : GoesOn may_wait (ask ∷ left_there) (r.value ∷ replies) =
-      so_far_skips here.stage.stage (sight_over here.stage here.prefix) may_wait (ask ∷ left_there) (r.value ∷ replies) (subst G cut goes_there) in
+      so_far_skips terms here.stage.stage (sight_over here.stage here.prefix) may_wait (ask ∷ left_there) (r.value ∷ replies) (subst G cut goes_there) in
       let place = here.stage in
-      let led = stage_led flows place.stage place.since place.opened place.used here.prefix (front_in here.prefix here.rest whole) sent replies r.value kept.place
+      let led = stage_led flows place.stage place.since place.opened place.used place.told here.prefix (front_in here.prefix here.rest whole) sent replies r.value kept.place
       r.stamp.moment ask may_wait tail asks question in
       let P : List Command → Type 0 = λ l. Result may_wait (sent ++ l) in
       subst P (sym cut)

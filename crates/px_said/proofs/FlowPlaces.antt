@@ -2,7 +2,9 @@
 use Rattle.std.proofs.Common.{◌≡◌, ℕ, Bool, true, false, List, [], ◌∷◌, ◌++◌, map, refl, ap, sym, ◌∙◌, subst, append_assoc}
 use Rattle.std.specs.Prelude.{⊤, if◌then◌else◌, not}
 use Rattle.std.proofs.lemmas.List.{append-nil}
+use Rattle.px_message.specs.declared.fault.Fault.{Fault}
 use Rattle.px_message.specs.declared.fault.Fault.TheVariants.{BadResponse}
+use Rattle.px_write.specs.Error.{fault_message}
 use Rattle.px_message.specs.declared.flow.Flow.{Flow}
 use Rattle.px_event.specs.declared.ask.Ask.{Ask}
 use Rattle.px_event.specs.declared.ask.Ask.TheVariants as asks
@@ -16,7 +18,7 @@ use Rattle.px_read.specs.Items.{Item, bad_body, bad_head, complete, missing, par
 use Rattle.px_read.specs.declared.head.RequestHead.{RequestHead as ReadRequest}
 use Rattle.px_read.specs.declared.head.ResponseHead.{ResponseHead as ReadResponse}
 use Rattle.px_exchange.specs.EndOrder.{EndsInOrder, FoundInOrder, OnlyCloses}
-use Rattle.px_exchange.specs.Endings.{ends_by_fault}
+use Rattle.px_exchange.specs.Endings.{ends_by_fault, ends_early}
 use Rattle.px_exchange.specs.Finds.{is_relayed, look_answer, look_body, look_head, look_judged, look_returned, or_leaves}
 use Rattle.px_exchange.specs.Flows.{ask_of, response_of, with_answer}
 use Rattle.px_exchange.specs.Requests.{judged}
@@ -26,9 +28,9 @@ use Rattle.px_exchange.specs.declared.asked.Judged.TheVariants.{Accepted, Connec
 use Rattle.px_exchange.specs.declared.ending.Used.{Used}
 use Rattle.px_exchange.specs.declared.terms.Terms.{Terms}
 use Rattle.px_exchange.specs.Requests.{is_http11}
-use Rattle.px_chain.specs.Chain.{http_chain, leaving, look, sequence, so_far, look_coming}
+use Rattle.px_chain.specs.Chain.{bad_or, http_chain, leaving, look, look_coming, sequence, so_far}
 use Rattle.px_chain.specs.Sights.{Sight, Standing, answers_in, request_in, server_in, server_parked, sight_over}
-use Rattle.px_chain.specs.Stages.{At, Stage, busy, connection, given_body, given_head, idle, next, over, request_body, response_body, response_head, upgraded, coming_down}
+use Rattle.px_chain.specs.Stages.{At, Stage, all_sent, busy, connection, given_body, given_head, going_up, idle, next, over, request_body, response_body, response_head, upgraded, coming_down}
 use Rattle.px_said.specs.Walks.{ComesBy, FlowBegins, Walk, behind_reply, due_by_reply, due_from, goes_on, is_there, due_by_passing, heard_on, hears, passed_on, passes}
 use Rattle.px_said.proofs.ClosedTurns.{asks_nothing, asks_same, ends_ask}
 use Rattle.px_said.proofs.ClosedWalk.{walk_behind, reach_behind, with_these}
@@ -77,18 +79,21 @@ interim_if : (knows : Bool) (heads : List AnswerHead) → AsksNone (sends_on kno
 interim_if true heads = interim_none heads
 interim_if false heads = tt
 
-so_far_none : (stage : Stage) (seen : Sight) → AsksNone (so_far stage seen)
-so_far_none (idle at) seen = tt
-so_far_none (busy at flow (request_body given)) seen = tt
-so_far_none (busy at flow connection) seen = tt
-so_far_none (busy at flow (response_head side how)) seen = interim_if (is_http11 flow.request.version) (answers_in flow.request seen).interim
-so_far_none (busy at flow (response_body side how most)) seen = tt
-so_far_none (busy at flow (coming_down side how)) seen = tt
-so_far_none (busy at flow (upgraded side)) seen = tt
-so_far_none (busy at flow given_head) seen = tt
-so_far_none (busy at flow given_body) seen = tt
-so_far_none (next at) seen = tt
-so_far_none over seen = tt
+so_far_none : (terms : Terms) (stage : Stage) (seen : Sight) → AsksNone (so_far terms stage seen)
+so_far_none terms (idle at) seen = tt
+so_far_none terms (busy at flow (request_body given most)) seen = tt
+so_far_none terms (busy at flow (connection how)) seen = tt
+so_far_none terms (busy at flow (response_head side all_sent)) seen = interim_if (is_http11 flow.request.version) (answers_in flow.request seen).interim
+so_far_none terms (busy at flow (response_head side going_up)) seen = interim_if (is_http11 flow.request.version) (answers_in flow.request seen).interim
+so_far_none terms (busy at flow (response_body side all_sent most)) seen = tt
+so_far_none terms (busy at flow (response_body side going_up most)) seen = tt
+so_far_none terms (busy at flow (coming_down side all_sent)) seen = tt
+so_far_none terms (busy at flow (coming_down side going_up)) seen = tt
+so_far_none terms (busy at flow (upgraded side)) seen = tt
+so_far_none terms (busy at flow given_head) seen = tt
+so_far_none terms (busy at flow given_body) seen = tt
+so_far_none terms (next at) seen = tt
+so_far_none terms over seen = tt
 
 first_none : (command : Command) (rest : List Command) (asked : Ask) (flow : Flow) → AsksNone (command ∷ rest) → commands.Ask asked flow ≡ command → ⊥
 first_none (commands.Ask other its) rest asked flow none is = none
@@ -201,13 +206,34 @@ module _ (terms : Terms) (index : ℕ) (flow : Flow) where
   coming_asks told leaving (bad_head fault) moment used closed is = asks_nothing closed leaving question is
   coming_asks told leaving (bad_body fault head body) moment used closed is = ends_ask _ question is
 
+  -- beside a request that goes up nothing else is asked
+  up_asks : (item : Item ReadRequest) (ends : Fault → List Command) (found : Look Command) (closed : Bool) (leaving : List Command) →
+      or_leaves closed leaving (bad_or item ends found) ≡ Asks question → or_leaves closed leaving found ≡ Asks question
+  up_asks missing ends found closed leaving is = is
+  up_asks (part head body) ends found closed leaving is = is
+  up_asks (complete head body trailers used) ends found closed leaving is = is
+  up_asks (bad_head fault) ends found closed leaving is = is
+  up_asks (bad_body fault head body) ends found closed leaving is = absurd (ends_ask _ question is)
+
   asks_at : (stage : Stage) (seen : Sight) → look terms stage seen ≡ Asks question → AsksAt stage
   asks_at (idle at) seen is = record { at = at; is = refl; number = head_index at.flow (request_in seen) _ seen.now (server_parked at.parked seen) seen.closed is }
-  asks_at (busy at told (request_body given)) seen is = absurd (body_asks told _ (request_in seen) seen.now (server_parked at.parked seen) seen.closed is)
-  asks_at (busy at told connection) seen is = absurd (let same = asks_same _ question is in cc)
-  asks_at (busy at told (response_head side how)) seen is = absurd (answer_asks told _ (answers_in told.request seen).final seen.now (server_in side seen) seen.closed is)
-  asks_at (busy at told (response_body side how most)) seen is = absurd (returned_asks told _ (answers_in told.request seen).final seen.now (server_in side seen) seen.closed is)
-  asks_at (busy at told (coming_down side how)) seen is = absurd (coming_asks told _ (answers_in told.request seen).final seen.now (server_in side seen) seen.closed is)
+  asks_at (busy at told (request_body given most)) seen is = absurd (body_asks told _ (request_in seen) seen.now (server_parked at.parked seen) seen.closed is)
+  asks_at (busy at told (connection how)) seen is = absurd (let same = asks_same _ question is in cc)
+  asks_at (busy at told (response_head side all_sent)) seen is = absurd (answer_asks told _ (answers_in told.request seen).final seen.now (server_in side seen) seen.closed is)
+  asks_at (busy at told (response_head side going_up)) seen is =
+      absurd (answer_asks told _ (answers_in told.request seen).final seen.now (server_in side seen) seen.closed
+      (up_asks (request_in seen) (λ fault. ends_by_fault told fault seen.now (server_in side seen) seen.closed)
+      (look_answer told (answers_in told.request seen).final seen.now (server_in side seen) seen.closed) seen.closed (leaving (busy at told (response_head side going_up)) seen) is))
+  asks_at (busy at told (response_body side all_sent most)) seen is = absurd (returned_asks told _ (answers_in told.request seen).final seen.now (server_in side seen) seen.closed is)
+  asks_at (busy at told (response_body side going_up most)) seen is =
+      absurd (returned_asks told _ (answers_in told.request seen).final seen.now (server_in side seen) seen.closed
+      (up_asks (request_in seen) (λ fault. ends_by_fault told fault seen.now (server_in side seen) seen.closed)
+      (look_returned told (answers_in told.request seen).final seen.now (server_in side seen) seen.closed) seen.closed (leaving (busy at told (response_body side going_up most)) seen) is))
+  asks_at (busy at told (coming_down side all_sent)) seen is = absurd (coming_asks told _ (answers_in told.request seen).final seen.now (server_in side seen) seen.closed is)
+  asks_at (busy at told (coming_down side going_up)) seen is =
+      absurd (coming_asks told _ (answers_in told.request seen).final seen.now (server_in side seen) seen.closed
+      (up_asks (request_in seen) (λ fault. ends_early told (fault_message fault) seen.now (server_in side seen) seen.closed)
+      (look_coming told (answers_in told.request seen).final seen.now (server_in side seen) seen.closed) seen.closed (leaving (busy at told (coming_down side going_up)) seen) is))
   asks_at (busy at told (upgraded side)) seen is = absurd (ends_ask _ question is)
   asks_at (busy at told given_head) seen is = absurd (let same = asks_same _ question is in cc)
   asks_at (busy at told given_body) seen is = absurd (let same = asks_same _ question is in cc)
@@ -226,10 +252,10 @@ module _ (terms : Terms) (index : ℕ) (flow : Flow) where
 
   -- no hook is asked by what is owed where it passes
   searched_none : (last : Stamp) (before : List Command) (s : Standing) (f : List (Timed Event)) (es : List (Stamped Event)) → AsksNone before → AsksNone (reach chain last before s f es).before
-  searched_none last before s f [] none = both_none before (chain.pass s f).owed none (ends_none (chain.pass s f).owed (passes_in_order s.stage (sight_over s f)))
+  searched_none last before s f [] none = both_none before (chain.pass s f).owed none (ends_none (chain.pass s f).owed (passes_in_order terms s.stage (sight_over s f)))
   searched_none last before s f (e ∷ es) none =
       let on = chain.pass s f in
-      let more = both_none before on.owed none (ends_none on.owed (passes_in_order s.stage (sight_over s f))) in
+      let more = both_none before on.owed none (ends_none on.owed (passes_in_order terms s.stage (sight_over s f))) in
       reach_by_none (chain.look on.stage f) _ _ (searched_none last (before ++ on.owed) on.stage (f ++ worked_off last e ∷ []) es more) more
 
   -- the place to which it leads, and what is owed by then
@@ -273,8 +299,8 @@ module _ (terms : Terms) (index : ℕ) (flow : Flow) where
 
   -- ---- the walk
 
-  idle_owes : (stage : Stage) (seen : Sight) (at : At) → stage ≡ idle at → so_far stage seen ≡ []
-  idle_owes stage seen at is = ap (λ s. so_far s seen) is
+  idle_owes : (stage : Stage) (seen : Sight) (at : At) → stage ≡ idle at → so_far terms stage seen ≡ []
+  idle_owes stage seen at is = ap (λ s. so_far terms s seen) is
 
   module _ (here : Walk) (before behind : List Command) where
     abbrev reached : Reached Standing Event Command
@@ -316,16 +342,16 @@ module _ (terms : Terms) (index : ℕ) (flow : Flow) where
     by_found : (owed : List Command) → before ≡ reached.before ++ owed → (l : Look Command) → chain.look reached.stage reached.prefix ≡ l → FoundInOrder l →
         waits ++ found_with parts l ≡ owed ++ question ∷ behind → FlowBegins terms here before index
     by_found owed begun NotYet looks order is =
-        let split = behind_quiet waits [] owed behind _ flow (so_far_none reached.stage.stage (sight_over reached.stage reached.prefix)) (sym is) in
+        let split = behind_quiet waits [] owed behind _ flow (so_far_none terms reached.stage.stage (sight_over reached.stage reached.prefix)) (sym is) in
         absurd (nothing_behind split.middle behind question split.is)
     by_found owed begun (Asks ask) looks order is =
-        let split = behind_quiet waits (ask ∷ parts) owed behind _ flow (so_far_none reached.stage.stage (sight_over reached.stage reached.prefix)) (sym is) in
+        let split = behind_quiet waits (ask ∷ parts) owed behind _ flow (so_far_none terms reached.stage.stage (sight_over reached.stage reached.prefix)) (sym is) in
         by_asked owed begun ask split.middle parts looks split.front split.is
         (λ more front left.
         let none = behind_quiet parts [] more behind _ flow parts_none (left ∙ sym (append-nil parts)) in
         absurd (nothing_behind none.middle behind question none.is))
     by_found owed begun (Ends ending) looks order is =
-        let split = behind_quiet waits ending owed behind _ flow (so_far_none reached.stage.stage (sight_over reached.stage reached.prefix)) (sym is) in
+        let split = behind_quiet waits ending owed behind _ flow (so_far_none terms reached.stage.stage (sight_over reached.stage reached.prefix)) (sym is) in
         let none = behind_quiet ending [] split.middle behind _ flow (ends_none ending order) (split.is ∙ sym (append-nil ending)) in
         absurd (nothing_behind none.middle behind question none.is)
 
@@ -369,7 +395,7 @@ module _ (terms : Terms) (index : ℕ) (flow : Flow) where
       ∙ (append_assoc there.before more tail ∙ ap (λ l. there.before ++ l) (append_assoc waiting (ask ∷ brought) tail))) in
       let searched = behind_quiet there.before (waiting ++ (ask ∷ (brought ++ tail))) before behind _ flow (searched_none last [] s f es tt) (sym due ∙ split) in
       let owed = searched.middle in
-      let first = behind_quiet waiting (ask ∷ (brought ++ tail)) owed behind _ flow (so_far_none there.stage.stage (sight_over there.stage there.prefix)) searched.is in
+      let first = behind_quiet waiting (ask ∷ (brought ++ tail)) owed behind _ flow (so_far_none terms there.stage.stage (sight_over there.stage there.prefix)) searched.is in
       by_asked here before behind owed searched.front ask first.middle (brought ++ tail) asks first.front first.is
       (λ rest front left.
       let second = behind_quiet brought tail rest behind _ flow none_asked left in

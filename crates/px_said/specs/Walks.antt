@@ -8,9 +8,10 @@ use Rattle.px_event.specs.Chain.{Asks, NotYet, Reached, Stamp, Stamped, Timed, a
 use Rattle.px_event.specs.Layer.{Move}
 use Rattle.px_event.specs.Stands.{events_in, replies_in}
 use Rattle.px_exchange.specs.declared.terms.Terms.{Terms}
+use Rattle.px_chain.specs.Behind.{used_behind}
 use Rattle.px_chain.specs.Chain.{http_chain, sequence}
 use Rattle.px_said.specs.ClosedForm.{Point, dial_answers}
-use Rattle.px_chain.specs.Sights.{Standing, used_behind}
+use Rattle.px_chain.specs.Sights.{Standing}
 use Rattle.px_chain.specs.Stages.{At, idle, side_parked}
 
 -- where it begins: its place, over so many events, those that come then, the replies from there on, and the step of the last one before

@@ -24,7 +24,7 @@ use Rattle.px_exchange.specs.declared.terms.Terms.{Terms}
 use Rattle.px_exchange.specs.Places.{address_of, dialled_for, terms_of}
 use Rattle.px_chain.specs.Chain.{look as look_of}
 use Rattle.px_chain.specs.Sights.{Standing, sight_over}
-use Rattle.px_chain.specs.Stages.{At, busy, connection, place_of, unparked}
+use Rattle.px_chain.specs.Stages.{At, busy, connection, place_of, unparked, Sent}
 use Rattle.px_chain.specs.Stages as stages
 use Rattle.px_chain.specs.Streams.{bytes_of, client_closed, from_here, is_closed}
 use Rattle.px_chain.proofs.FrontLaws.{now_here}
@@ -231,9 +231,9 @@ module _ (conv : ℕ) (client : Visitor) (kept : Opening) (closed : Bool) where
 
 module _ (conv : ℕ) (client : Visitor) (boxed : Box HttpConv) (moment : ℕ) (next : Child) where
   -- the dial is the ask there
-  asks_dial : (place : Place) (standing : Standing) (prefix : List (Timed Event)) (at : At) (flow : Flow) → standing.stage ≡ busy at flow connection →
+  asks_dial : (place : Place) (standing : Standing) (prefix : List (Timed Event)) (at : At) (flow : Flow) (sent : Sent) → standing.stage ≡ busy at flow (connection sent) →
       (flows_at conv client place).look standing prefix ≡ Asks (commands.Dial at.dials (dialled_for place flow.request) None)
-  asks_dial place standing prefix at flow stage =
+  asks_dial place standing prefix at flow sent stage =
       let P : stages.Stage → Type 0 = λ s. look_of (terms_of conv client.address place) s (sight_over standing prefix) ≡ Asks (commands.Dial at.dials (dialled_for place flow.request) None) in
       subst P (sym stage) refl
 
@@ -243,16 +243,16 @@ module _ (conv : ℕ) (client : Visitor) (boxed : Box HttpConv) (moment : ℕ) (
       (commands.Send (Server boxed.value.stream.at.dials) (connect_text address) ∷ []) (http place standing) prefix
   asked_flow place standing prefix address there in_time led asks =
       let server : ℕ = boxed.value.stream.at.dials in
-      let from : Dialling = record { at = unparked led.at; used = standing.used.client; flow = led.flow } in
+      let from : Dialling = record { at = unparked led.at; used = standing.used.client; flow = led.flow; sent = led.sent } in
       let terms : Terms = terms_of conv client.address place in
-      let dialled : server ≡ led.at.dials = server_there terms (ahead_at place) boxed.value standing prefix led.at led.flow led.stage there in
+      let dialled : server ≡ led.at.dials = server_there terms (ahead_at place) boxed.value standing prefix led.at led.flow led.sent led.stage there in
       let answer : Timed Reply = record { moment = moment; value = reply.Dialled } in
       let turned : Turn Stage Command = asks_proxy conv client (a_flow place from) (address_of led.flow.request) led.at.dials prefix moment in
       let is : (stack_chain conv client).turn (http place standing) prefix answer ≡ turned =
       ap (λ l. turn_http conv client l place standing prefix answer reply.Dialled) led.led in
       let Q : stages.Stage → Type 0 = λ s. OpensInTime (place_of s).parked standing.opened prefix in
       let to = asks_there conv client (a_flow place from) led.at.dials prefix moment (goals.Flow boxed) server boxed.value.stream.client_closed next dialled
-      (closed_there terms (ahead_at place) boxed.value standing prefix led.at led.flow led.stage there) asks
+      (closed_there terms (ahead_at place) boxed.value standing prefix led.at led.flow led.sent led.stage there) asks
       (record {
         standing = standing;
         at = led.at;
@@ -267,7 +267,7 @@ module _ (conv : ℕ) (client : Visitor) (boxed : Box HttpConv) (moment : ℕ) (
       let P : Turn Stage Command → Type 0 = λ t. IsChild conv client next ((stack_chain conv client).pass t.stage prefix).stage prefix in
       record {
         ask = commands.Dial led.at.dials (dialled_for place led.flow.request) None;
-        asked = asks_dial place standing prefix led.at led.flow led.stage;
+        asked = asks_dial place standing prefix led.at led.flow led.sent led.stage;
         place = subst P (sym is) to.there;
         gives = λ view.
             ap (λ n. seen_of view (commands.Send (Server n) (connect_text address) ∷ [])) dialled

@@ -66,11 +66,11 @@ going_on (phase.Ready ready.Over) is last = let no : outcomes.Over ≡ outcomes.
 going_on (phase.Ready (ready.Connects address)) is last = let no : outcomes.Connects ≡ outcomes.Going = is in cc
 going_on (phase.Ready (ready.Upgraded flow server)) is last = let no : outcomes.Upgraded ≡ outcomes.Going = is in cc
 going_on (phase.Ready ready.Idle) is last = let no : false ≡ true = last in cc
-going_on (phase.Ready (ready.RequestBody flow given body)) is last = let no : false ≡ true = last in cc
-going_on (phase.Ready (ready.Connection flow)) is last = let no : false ≡ true = last in cc
-going_on (phase.Ready (ready.ResponseHead flow server)) is last = let no : false ≡ true = last in cc
-going_on (phase.Ready (ready.ResponseBody flow server most body held)) is last = let no : false ≡ true = last in cc
-going_on (phase.Ready (ready.ComingDown flow server sent)) is last = let no : false ≡ true = last in cc
+going_on (phase.Ready (ready.RequestBody flow given most body held)) is last = let no : false ≡ true = last in cc
+going_on (phase.Ready (ready.Connection flow up)) is last = let no : false ≡ true = last in cc
+going_on (phase.Ready (ready.ResponseHead flow server up)) is last = let no : false ≡ true = last in cc
+going_on (phase.Ready (ready.ResponseBody flow server up most body held)) is last = let no : false ≡ true = last in cc
+going_on (phase.Ready (ready.ComingDown flow server up sent)) is last = let no : false ≡ true = last in cc
 going_on (phase.Ready (ready.GivenHead flow)) is last = let no : false ≡ true = last in cc
 going_on (phase.Ready (ready.GivenBody flow)) is last = let no : false ≡ true = last in cc
 
@@ -81,11 +81,11 @@ last_when (phase.Ready ready.Over) ends = refl
 last_when (phase.Ready (ready.Connects address)) ends = refl
 last_when (phase.Ready (ready.Upgraded flow server)) ends = refl
 last_when (phase.Ready ready.Idle) ends = absurd (ends refl)
-last_when (phase.Ready (ready.RequestBody flow given body)) ends = absurd (ends refl)
-last_when (phase.Ready (ready.Connection flow)) ends = absurd (ends refl)
-last_when (phase.Ready (ready.ResponseHead flow server)) ends = absurd (ends refl)
-last_when (phase.Ready (ready.ResponseBody flow server most body held)) ends = absurd (ends refl)
-last_when (phase.Ready (ready.ComingDown flow server sent)) ends = absurd (ends refl)
+last_when (phase.Ready (ready.RequestBody flow given most body held)) ends = absurd (ends refl)
+last_when (phase.Ready (ready.Connection flow up)) ends = absurd (ends refl)
+last_when (phase.Ready (ready.ResponseHead flow server up)) ends = absurd (ends refl)
+last_when (phase.Ready (ready.ResponseBody flow server up most body held)) ends = absurd (ends refl)
+last_when (phase.Ready (ready.ComingDown flow server up sent)) ends = absurd (ends refl)
 last_when (phase.Ready (ready.GivenHead flow)) ends = absurd (ends refl)
 last_when (phase.Ready (ready.GivenBody flow)) ends = absurd (ends refl)
 
@@ -105,8 +105,8 @@ idle_as place standing at seen requests side found last (Some connects) is same 
 ends_as : (terms : Terms) (standing : Standing) (stage : stages.Stage) (seen : Sight) (requests : State) (side : Option KeptLink) (found : Phase) (last : Wanted) →
     found ≡ phase.Ready last → IsLast terms stage seen requests side last → EndsAs terms.place standing stage seen requests side found
 ends_as terms standing (idle at) seen requests side found last same is = idle_as terms.place standing at seen requests side found last (connect_in terms.place (request_in seen)) refl same is
-ends_as terms standing (busy at flow (request_body given)) seen requests side found last same is = by_end refl last same is
-ends_as terms standing (busy at flow connection) seen requests side found last same is = by_end refl last same is
+ends_as terms standing (busy at flow (request_body given most)) seen requests side found last same is = by_end refl last same is
+ends_as terms standing (busy at flow (connection sent)) seen requests side found last same is = by_end refl last same is
 ends_as terms standing (busy at flow (response_head server how)) seen requests side found last same is = by_end refl last same is
 ends_as terms standing (busy at flow (response_body server how most)) seen requests side found last same is = by_end refl last same is
 ends_as terms standing (busy at flow (coming_down server how)) seen requests side found last same is = by_end refl last same is
@@ -245,9 +245,9 @@ connect_used place (bad_body fault head body) used connects is = absurd (let no 
 
 module _ (conv : ℕ) (client : Visitor) (place : Place) (flows : HttpConv) where
   -- over plain parts of a standing
-  module _ (at : At) (since : Since) (opened : ℕ) (used : UsedBytes) (prefix : List (Timed Event)) where
+  module _ (at : At) (since : Since) (opened : ℕ) (used : UsedBytes) (told : ℕ) (prefix : List (Timed Event)) where
     abbrev here : Standing
-    here = record { stage = idle at; since = since; opened = opened; used = used }
+    here = record { stage = idle at; since = since; opened = opened; used = used; told = told }
 
     abbrev sight : Sight
     sight = sight_over here prefix
@@ -297,7 +297,7 @@ module _ (conv : ℕ) (client : Visitor) (place : Place) (flows : HttpConv) wher
             client = client_is ∙ placed.client;
           };
           gives = λ view.
-              ap (λ l. seen_of view (so_far (idle at) sight ++ found_with (behind (idle at) sight) l) ++ seen_of view (dials_for kept)) over.ends
+              ap (λ l. seen_of view (so_far (terms_of conv client.address place) (idle at) sight ++ found_with (behind (idle at) sight) l) ++ seen_of view (dials_for kept)) over.ends
               ∙ (ap (λ n. seen_of view (commands.Dial n (unwrap_or kept.proxy kept.address) None ∷ [])) same_server
               ∙ (ap (λ p. seen_of view (commands.Dial at.dials (unwrap_or p kept.address) None ∷ [])) proxy
               ∙ ap (λ a. seen_of view (commands.Dial at.dials (unwrap_or (proxy_at place) a) None ∷ [])) same_address));
@@ -305,9 +305,9 @@ module _ (conv : ℕ) (client : Visitor) (place : Place) (flows : HttpConv) wher
         })
 
   -- whatever the standing
-  module _ (kept : Opening) (closed : Bool) (since : Since) (opened : ℕ) (used : UsedBytes) (prefix : List (Timed Event)) where
+  module _ (kept : Opening) (closed : Bool) (since : Since) (opened : ℕ) (used : UsedBytes) (told : ℕ) (prefix : List (Timed Event)) where
     abbrev standing_at : stages.Stage → Standing
-    standing_at stage = record { stage = stage; since = since; opened = opened; used = used }
+    standing_at stage = record { stage = stage; since = since; opened = opened; used = used; told = told }
 
     abbrev Dials : stages.Stage → Type 0
     Dials stage = FollowsAt conv client flows (children.Connecting kept closed) (dials_for kept) place (standing_at stage) prefix
@@ -320,7 +320,7 @@ module _ (conv : ℕ) (client : Visitor) (place : Place) (flows : HttpConv) wher
         let P : stages.Stage → Type 0 = λ s. IsInFlows conv client place flows (standing_at s) prefix →
         connect_in place (request_in (sight_over (standing_at s) prefix)) ≡ Some connects →
         IsTunnelAsked connects (sight_over (standing_at s) prefix) flows.stream.requests last → Dials s in
-        subst P (sym is) (λ flows_there whole_there asked_there. connect_follows at since opened used prefix flows_there connects whole_there last same asked_there kept closed flow dials address proxy rest client_is)
+        subst P (sym is) (λ flows_there whole_there asked_there. connect_follows at since opened used told prefix flows_there connects whole_there last same asked_there kept closed flow dials address proxy rest client_is)
         in_flows whole asked
     connect_by stage in_flows outcome (by_upgrade at follower server is last same asked) flow dials address proxy rest client_is =
         absurd (let no : outcomes.Upgraded ≡ outcomes.Connects = sym (ap outcome_in same ∙ ap (λ r. outcome_in (phase.Ready r)) asked.phase) ∙ outcome in cc)
@@ -342,7 +342,7 @@ pub connects : (flows : HttpConv) (kept : Opening) (closed : Bool) → outcome_i
     kept.rest ≡ flows.stream.requests.rest → closed ≡ flows.stream.client_closed → (key : List ℕ) (moment : ℕ) → Follows key moment flows (children.Connecting kept closed) (dials_for kept)
 connects flows kept closed is flow dials address proxy rest client_is key moment conv client place standing prefix keyed now at in_time =
     let last : is_last flows.stream.phase ≡ true = last_when flows.stream.phase (apart flows.stream.phase outcomes.Connects outcomes.Going is connects_not) in
-    connect_by conv client place flows kept closed standing.since standing.opened standing.used prefix standing.stage at is
+    connect_by conv client place flows kept closed standing.since standing.opened standing.used standing.told prefix standing.stage at is
     (found_end conv client place flows standing prefix at last) flow dials address (proxy ∙ ap (λ t. proxy_at t.place) at.is_at.is_in.terms) rest client_is
 
 -- ---- another protocol
@@ -365,9 +365,9 @@ socket_room places.Regular = omega arith
 socket_room (places.Upstream proxy) = omega arith
 
 module _ (conv : ℕ) (client : Visitor) (place : Place) (flows : HttpConv) where
-  module _ (at : At) (flow : Flow) (server : ℕ) (since : Since) (opened : ℕ) (used : UsedBytes) (prefix : List (Timed Event)) where
+  module _ (at : At) (flow : Flow) (server : ℕ) (since : Since) (opened : ℕ) (used : UsedBytes) (told : ℕ) (prefix : List (Timed Event)) where
     abbrev there_at : Standing
-    there_at = record { stage = busy at flow (upgraded server); since = since; opened = opened; used = used }
+    there_at = record { stage = busy at flow (upgraded server); since = since; opened = opened; used = used; told = told }
 
     abbrev ends_of : TunnelEnds
     ends_of = record { used = used.client; link = record { server = server; used = used.server; opened = opened }; flow = Some flow }
@@ -421,9 +421,9 @@ module _ (conv : ℕ) (client : Visitor) (place : Place) (flows : HttpConv) wher
         })
 
   module _ (moment : ℕ) (sides : Sides) (rests : Rests) (given : Flow) (child : Child) (more : List Command)
-      (since : Since) (opened : ℕ) (used : UsedBytes) (prefix : List (Timed Event)) (now : moment ≡ now_over since prefix) where
+      (since : Since) (opened : ℕ) (used : UsedBytes) (told : ℕ) (prefix : List (Timed Event)) (now : moment ≡ now_over since prefix) where
     abbrev stands_at : stages.Stage → Standing
-    stands_at stage = record { stage = stage; since = since; opened = opened; used = used }
+    stands_at stage = record { stage = stage; since = since; opened = opened; used = used; told = told }
 
     upgrade_by : (stage : stages.Stage) → IsInFlows conv client place flows (stands_at stage) prefix → outcome_in flows.stream.phase ≡ outcomes.Upgraded →
         EndsAs place (stands_at stage) stage (sight_over (stands_at stage) prefix) flows.stream.requests flows.stream.side flows.stream.phase →
@@ -436,7 +436,7 @@ module _ (conv : ℕ) (client : Visitor) (place : Place) (flows : HttpConv) wher
     upgrade_by stage in_flows outcome (by_upgrade at flow server is last same asked) a b c d e f goes =
         let P : stages.Stage → Type 0 = λ s. IsInFlows conv client place flows (stands_at s) prefix →
         IsUpgraded flow server (sight_over (stands_at s) prefix) flows.stream.requests flows.stream.side last → FollowsAt conv client flows child more place (stands_at s) prefix in
-        subst P (sym is) (λ flows_there asked_there. upgrade_follows at flow server since opened used prefix flows_there last same asked_there moment sides rests given child more now a b c d e f goes)
+        subst P (sym is) (λ flows_there asked_there. upgrade_follows at flow server since opened used told prefix flows_there last same asked_there moment sides rests given child more now a b c d e f goes)
         in_flows asked
     upgrade_by stage in_flows outcome (by_end stays last same is) a b c d e f goes =
         absurd (let no : outcomes.Over ≡ outcomes.Upgraded = sym (ap outcome_in same ∙ ap (λ r. outcome_in (phase.Ready r)) is) ∙ outcome in cc)
@@ -450,7 +450,7 @@ pub upgrades : (key : List ℕ) (moment : ℕ) (flows : HttpConv) (sides : Sides
 upgrades key moment flows sides rests given child more is a b c d e f goes conv client place standing prefix keyed now at in_time =
     let last : is_last flows.stream.phase ≡ true = last_when flows.stream.phase (apart flows.stream.phase outcomes.Upgraded outcomes.Going is upgraded_not) in
     let P : List ℕ → Type 0 = λ k. GoesOnAs k moment sides rests given child more in
-    upgrade_by conv client place flows moment sides rests given child more standing.since standing.opened standing.used prefix now standing.stage at is
+    upgrade_by conv client place flows moment sides rests given child more standing.since standing.opened standing.used standing.told prefix now standing.stage at is
     (found_end conv client place flows standing prefix at last) a b c d e f (subst P (sym keyed) goes)
 
 -- its flow is there
@@ -460,11 +460,11 @@ upgraded_flow (phase.Asked awaits) is none = let no : outcomes.Going ≡ outcome
 upgraded_flow (phase.Ready ready.Over) is none = let no : outcomes.Over ≡ outcomes.Upgraded = is in cc
 upgraded_flow (phase.Ready (ready.Connects address)) is none = let no : outcomes.Connects ≡ outcomes.Upgraded = is in cc
 upgraded_flow (phase.Ready ready.Idle) is none = let no : outcomes.Going ≡ outcomes.Upgraded = is in cc
-upgraded_flow (phase.Ready (ready.RequestBody flow given body)) is none = let no : outcomes.Going ≡ outcomes.Upgraded = is in cc
-upgraded_flow (phase.Ready (ready.Connection flow)) is none = let no : outcomes.Going ≡ outcomes.Upgraded = is in cc
-upgraded_flow (phase.Ready (ready.ResponseHead flow server)) is none = let no : outcomes.Going ≡ outcomes.Upgraded = is in cc
-upgraded_flow (phase.Ready (ready.ResponseBody flow server most body held)) is none = let no : outcomes.Going ≡ outcomes.Upgraded = is in cc
-upgraded_flow (phase.Ready (ready.ComingDown flow server sent)) is none = let no : outcomes.Going ≡ outcomes.Upgraded = is in cc
+upgraded_flow (phase.Ready (ready.RequestBody flow given most body held)) is none = let no : outcomes.Going ≡ outcomes.Upgraded = is in cc
+upgraded_flow (phase.Ready (ready.Connection flow up)) is none = let no : outcomes.Going ≡ outcomes.Upgraded = is in cc
+upgraded_flow (phase.Ready (ready.ResponseHead flow server up)) is none = let no : outcomes.Going ≡ outcomes.Upgraded = is in cc
+upgraded_flow (phase.Ready (ready.ResponseBody flow server up most body held)) is none = let no : outcomes.Going ≡ outcomes.Upgraded = is in cc
+upgraded_flow (phase.Ready (ready.ComingDown flow server up sent)) is none = let no : outcomes.Going ≡ outcomes.Upgraded = is in cc
 upgraded_flow (phase.Ready (ready.GivenHead flow)) is none = let no : outcomes.Going ≡ outcomes.Upgraded = is in cc
 upgraded_flow (phase.Ready (ready.GivenBody flow)) is none = let no : outcomes.Going ≡ outcomes.Upgraded = is in cc
 

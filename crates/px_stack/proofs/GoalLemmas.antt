@@ -111,7 +111,7 @@ hears_flow boxed after event hears same conv client moment (a_flow place from) l
       stage = led.stage;
       from_is = led.from_is;
       used_is = led.used_is;
-      there = hears.hears (terms_of conv client.address place) (ahead_at place) led.standing prefix moment led.at from.flow led.stage led.in_time led.there;
+      there = hears.hears (terms_of conv client.address place) (ahead_at place) led.standing prefix moment led.at from.flow from.sent led.stage led.in_time led.there;
       in_time = in_time_more led.at.parked led.standing.opened prefix e led.there.is_at.within.opened led.in_time;
       dialled = led.dialled;
       waits = subst P (sym same) led.waits;

@@ -1,5 +1,5 @@
 -- What HTTP does with an event or a reply, and what follows it, is what the longer chain does there.
-use Rattle.std.proofs.Common.{◌≡◌, ℕ, ◌+◌, ◌<◌, ◌≤◌, List, [], ◌∷◌, ◌++◌, refl, ap, sym, ◌∙◌, subst, append_assoc, arith}
+use Rattle.std.proofs.Common.{true, ◌≡◌, ℕ, ◌+◌, ◌<◌, ◌≤◌, List, [], ◌∷◌, ◌++◌, refl, ap, sym, ◌∙◌, subst, append_assoc, arith}
 use Rattle.std.specs.Global.{Box}
 use Rattle.px_event.specs.declared.command.Command.{Command}
 use Rattle.px_event.specs.declared.event.Event.{Event}
@@ -18,11 +18,12 @@ use Rattle.px_chain.specs.Stages.{place_of}
 use Rattle.px_chain.proofs.FrontLaws.{now_here, now_more}
 use Rattle.px_http.specs.declared.conversation.HttpConv.{HttpConv}
 use Rattle.px_stream.specs.Anywhere.{IsInSequence, Somewhere}
-use Rattle.px_stream.specs.Tells.{sequence_left}
+use Rattle.px_stream.specs.Stands.{IsAt}
+use Rattle.px_stream.specs.Tells.{KeepsLittle, keeps_no_body, sequence_left}
 use Rattle.px_stack.specs.declared.child.Child.{Child}
 use Rattle.px_stack.specs.declared.child.Child.TheVariants as children
 use Rattle.px_stack.specs.Chain.{flows_at, stack_chain, turn_flows}
-use Rattle.px_stack.specs.Kept.{left_by, tunnel_left}
+use Rattle.px_stack.specs.Kept.{http_keeps_no_body, kept_by, left_by, tunnel_left}
 use Rattle.px_stack.specs.Stages.{Stage, Visitor, connecting, http, over, raw, reaching, socket, undecided}
 use Rattle.px_stack.specs.Stands.{InTime, IsChild, IsInFlows, IsSomewhere, Keeps, KeepsBy, ahead_at}
 use Rattle.px_stack.specs.Steps.{Follows, IsPlain, ResumesChild, TakesChild, follows_to}
@@ -65,6 +66,14 @@ pub is_kept : (conv : ℕ) (client : Visitor) (boxed : Box HttpConv) (stage : St
 is_kept conv client boxed stage prefix is =
     keeps_http conv client boxed stage prefix (kept_by_look ((stack_chain conv client).look stage prefix) conv client boxed stage prefix is)
 
+-- Where neither direction keeps a body, all that is kept is little.
+pub http_little : (conv : ℕ) (client : Visitor) (child : Child) (boxed : Box HttpConv) (stage : Stage) (prefix : List (Timed Event)) → child ≡ children.Http boxed →
+    ((made : Terms) (place : Standing) (over : List (Timed Event)) → IsAt made boxed.value.stream place over → keeps_no_body boxed.value.stream.phase ≡ true → KeepsLittle boxed.value.stream) →
+    IsChild conv client child stage prefix → http_keeps_no_body child ≡ true → kept_by child ≤ 133120
+http_little conv client child boxed stage prefix same little is keeps =
+    let kept = is_kept conv client boxed stage prefix (subst (λ c. IsChild conv client c stage prefix) same is) in
+    subst (λ c. kept_by c ≤ 133120) (sym same) (little (terms_of conv client.address kept.place) kept.standing prefix kept.there.is_at (ap http_keeps_no_body (sym same) ∙ keeps)).all
+
 -- so HTTP is somewhere
 pub somewhere : (conv : ℕ) (client : Visitor) (boxed : Box HttpConv) → IsSomewhere conv client (children.Http boxed) → Somewhere boxed.value.stream
 somewhere conv client boxed (stage, prefix, is) =
@@ -80,15 +89,15 @@ not_ended (Ends other) conv client boxed stage prefix owed is ends = let no : ch
 
 -- ---- a side that is parked was connected before the client closed, over one event more and behind a reply
 
-later : (standing : Standing) (prefix : List (Timed Event)) (e : Timed Event) → IsWithin standing prefix → InTime standing prefix →
-    InTime (passed sequence standing (sight_over standing (prefix ++ e ∷ []))) (prefix ++ e ∷ [])
-later standing prefix e within in_time =
-    in_time_passed standing (prefix ++ e ∷ []) (in_time_more (place_of standing.stage).parked standing.opened prefix e within.opened in_time)
+later : (terms : Terms) (standing : Standing) (prefix : List (Timed Event)) (e : Timed Event) → IsWithin standing prefix → InTime standing prefix →
+    InTime (passed sequence terms standing (sight_over standing (prefix ++ e ∷ []))) (prefix ++ e ∷ [])
+later terms standing prefix e within in_time =
+    in_time_passed terms standing (prefix ++ e ∷ []) (in_time_more (place_of standing.stage).parked standing.opened prefix e within.opened in_time)
 
 turned_on : (conv : ℕ) (client : Visitor) (place : Place) (standing : Standing) (prefix : List (Timed Event)) (answer : Timed Reply) → InTime standing prefix →
     InTime ((flows_at conv client place).pass ((flows_at conv client place).turn standing prefix answer).stage prefix).stage prefix
 turned_on conv client place standing prefix answer in_time =
-    in_time_passed ((flows_at conv client place).turn standing prefix answer).stage prefix (in_time_turned (terms_of conv client.address place) standing prefix answer in_time)
+    in_time_passed (terms_of conv client.address place) ((flows_at conv client place).turn standing prefix answer).stage prefix (in_time_turned (terms_of conv client.address place) standing prefix answer in_time)
 
 -- ---- an event
 
@@ -121,7 +130,7 @@ module _ (conv : ℕ) (client : Visitor) (boxed : Box HttpConv) (after : HttpCon
       let longer : List (Timed Event) = prefix ++ e ∷ [] in
       let on = (flows_at conv client place).pass standing longer in
       let to : Turn Stage Command = follows_to conv client place on.stage longer in
-      let next = follows conv client place on.stage longer refl (sym (now_more standing.since prefix e within.since)) at (later standing prefix e within in_time) in
+      let next = follows conv client place on.stage longer refl (sym (now_more standing.since prefix e within.since)) at (later (terms_of conv client.address place) standing prefix e within in_time) in
       onward is next.there
       (λ view. gave_both view ((flows_at conv client place).so_far standing prefix) on.owed (owed_here (flows_at conv client place) on.stage longer) to.owed
       (owed_here (stack_chain conv client) to.stage longer) (gives view) (next.gives view))
@@ -201,7 +210,7 @@ module _ (key : List ℕ) (boxed : Box HttpConv) (after : HttpConv) (child : Chi
   takes_left_by conv client event place standing prefix within in_time goes (onward is at gives) =
       let e : Timed Event = record { moment = moment; value = event } in
       (follows conv (keyed client) place ((flows_at conv client place).pass standing (prefix ++ e ∷ [])).stage (prefix ++ e ∷ []) refl
-      (sym (now_more standing.since prefix e within.since)) at (later standing prefix e within in_time)).left
+      (sym (now_more standing.since prefix e within.since)) at (later (terms_of conv client.address place) standing prefix e within in_time)).left
   takes_left_by conv client event place standing prefix within in_time goes (past_end owed is at gives) =
       absurd (goes owed is)
 

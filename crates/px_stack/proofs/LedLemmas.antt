@@ -12,7 +12,7 @@ use Rattle.px_exchange.specs.declared.terms.Terms.{Terms}
 use Rattle.px_exchange.specs.Places.{address_of, terms_of}
 use Rattle.px_chain.specs.Chain.{look}
 use Rattle.px_chain.specs.Sights.{Sight, Standing, sight_over}
-use Rattle.px_chain.specs.Stages.{At, busy, coming_down, connection, given_body, given_head, idle, next, request_body, response_body, response_head, unparked, upgraded}
+use Rattle.px_chain.specs.Stages.{At, busy, coming_down, connection, given_body, given_head, idle, next, request_body, response_body, response_head, unparked, upgraded, Sent}
 use Rattle.px_chain.specs.Stages as stages
 use Rattle.px_chain.specs.Streams.{client_closed}
 use Rattle.px_http.specs.declared.conversation.HttpConv.{HttpConv}
@@ -23,7 +23,7 @@ use Rattle.px_stream.specs.declared.phase.Asked.TheVariants as asked
 use Rattle.px_stream.specs.declared.phase.Phase.{Phase}
 use Rattle.px_stream.specs.declared.phase.Phase.TheVariants as phase
 use Rattle.px_stream.specs.Anywhere.{IsInSequence}
-use Rattle.px_stream.specs.Stands.{HasPlace, IsPlaced, PhaseAt}
+use Rattle.px_stream.specs.Stands.{HasPlace, IsPlaced, PhaseAt, bare}
 use Rattle.px_stream.specs.Tells.{IsDialling, dialled_flow, led_to, server_dialled}
 use Rattle.px_stream.specs.Tells as tells
 use Rattle.px_stream.proofs.WaitLemmas.{is_at_dial}
@@ -55,17 +55,39 @@ module _ (conv : ℕ) (client : Visitor) (place : Place) (standing : Standing) (
 same_asked : (a b : Asked) → Some b ≡ Some a → a ≡ b
 same_asked a b is = cc
 
+-- what it keeps of a request that goes up says nothing of the flow
+dialled_bare : (awaits : Asked) → dialled_flow (phase.Asked (bare awaits)) ≡ dialled_flow (phase.Asked awaits)
+dialled_bare (asked.Idle flow expects) = refl
+dialled_bare (asked.RequestBody flow) = refl
+dialled_bare (asked.Connection flow server up) = refl
+dialled_bare (asked.ResponseHead flow server up) = refl
+dialled_bare (asked.ResponseBody flow server up) = refl
+dialled_bare (asked.GivenHead flow) = refl
+dialled_bare (asked.GivenBody flow) = refl
+
+-- where the server of the flow is that is dialled
+dialled_server : (found : Phase) (flow : Flow) → dialled_flow found ≡ Some flow → server_dialled found ≡ Some (address_of flow.request)
+dialled_server (phase.Asked (asked.Connection here server up)) flow is = let same : here ≡ flow = cc in ap (λ f. Some (address_of f.request)) same
+dialled_server (phase.Asked (asked.Idle here expects)) flow is = absurd (let no : None ≡ Some flow = is in cc)
+dialled_server (phase.Asked (asked.RequestBody here)) flow is = absurd (let no : None ≡ Some flow = is in cc)
+dialled_server (phase.Asked (asked.ResponseHead here server up)) flow is = absurd (let no : None ≡ Some flow = is in cc)
+dialled_server (phase.Asked (asked.ResponseBody here server up)) flow is = absurd (let no : None ≡ Some flow = is in cc)
+dialled_server (phase.Asked (asked.GivenHead here)) flow is = absurd (let no : None ≡ Some flow = is in cc)
+dialled_server (phase.Asked (asked.GivenBody here)) flow is = absurd (let no : None ≡ Some flow = is in cc)
+dialled_server (phase.Ready looked) flow is = absurd (let no : None ≡ Some flow = is in cc)
+
 module _ (terms : Terms) (here : At) (requests : State) (side : Option KeptLink) (found : Phase) (seen : Sight) where
   -- where a flow's dial is awaited in the chain, it is in the machine
-  dialled_phase : (at : At) (flow : Flow) → PhaseAt (look terms (busy at flow connection) seen) terms here requests side found (busy at flow connection) seen →
-      found ≡ phase.Asked (asked.Connection flow at.dials)
-  dialled_phase at flow (awaits, same, is) = same ∙ ap phase.Asked (same_asked awaits (asked.Connection flow at.dials) is.asks)
+  dialled_phase : (at : At) (flow : Flow) (sent : Sent) → PhaseAt (look terms (busy at flow (connection sent)) seen) terms here requests side found (busy at flow (connection sent)) seen →
+      dialled_flow found ≡ Some flow
+  dialled_phase at flow sent (awaits, same, is) =
+      ap dialled_flow same ∙ (sym (dialled_bare awaits) ∙ ap (λ a. dialled_flow (phase.Asked a)) (same_asked (bare awaits) (asked.Connection flow at.dials None) is.asks))
 
   none_led : (used : ℕ) (stage : stages.Stage) → PhaseAt (look terms stage seen) terms here requests side found stage seen → server_dialled found ≡ None → led_by used stage ≡ None
   none_led used (idle at) is none = refl
-  none_led used (busy at flow (request_body given)) is none = refl
-  none_led used (busy at flow connection) is none =
-      absurd (let no : Some (address_of flow.request) ≡ None = sym (ap server_dialled (dialled_phase at flow is)) ∙ none in cc)
+  none_led used (busy at flow (request_body given most)) is none = refl
+  none_led used (busy at flow (connection sent)) is none =
+      absurd (let no : Some (address_of flow.request) ≡ None = sym (dialled_server found flow (dialled_phase at flow sent is)) ∙ none in cc)
   none_led used (busy at flow (response_head side how)) is none = refl
   none_led used (busy at flow (response_body side how most)) is none = refl
   none_led used (busy at flow (coming_down side how)) is none = refl
@@ -97,7 +119,7 @@ plain_turn conv client place flows standing prefix moment value at plain =
 -- ---- a flow whose dial is awaited
 
 -- what it keeps there
-module _ (terms : Terms) (ahead : ℕ) (flows : HttpConv) (standing : Standing) (prefix : List (Timed Event)) (at : At) (flow : Flow) (stage : standing.stage ≡ busy at flow connection)
+module _ (terms : Terms) (ahead : ℕ) (flows : HttpConv) (standing : Standing) (prefix : List (Timed Event)) (at : At) (flow : Flow) (sent : Sent) (stage : standing.stage ≡ busy at flow (connection sent))
     (there : IsInSequence terms ahead flows.stream standing prefix) where
   abbrev seen_there : Sight
   seen_there = sight_over standing prefix
@@ -117,7 +139,7 @@ module _ (terms : Terms) (ahead : ℕ) (flows : HttpConv) (standing : Standing) 
   pub flow_there : dialled_flow flows.stream.phase ≡ Some flow
   flow_there =
       let P : stages.Stage → Type 0 = λ s. PhaseAt (look terms s seen_there) terms flows.stream.at flows.stream.requests flows.stream.side flows.stream.phase s seen_there in
-      ap dialled_flow (dialled_phase terms flows.stream.at flows.stream.requests flows.stream.side flows.stream.phase seen_there at flow (subst P stage there.is_at.is_in.phase))
+      dialled_phase terms flows.stream.at flows.stream.requests flows.stream.side flows.stream.phase seen_there at flow sent (subst P stage there.is_at.is_in.phase)
 
 -- ---- a flow that is led on
 
@@ -125,32 +147,22 @@ module _ (terms : Terms) (ahead : ℕ) (flows : HttpConv) (standing : Standing) 
 pub record IsLed (place : Place) (flows : HttpConv) (standing : Standing) (address : Address) : Type 0 where
   pub at : At
   pub flow : Flow
-  pub stage : standing.stage ≡ busy at flow connection
-  pub led : led_at place standing ≡ Some (record { at = unparked at; used = standing.used.client; flow = flow })
+  pub sent : Sent
+  pub stage : standing.stage ≡ busy at flow (connection sent)
+  pub led : led_at place standing ≡ Some (record { at = unparked at; used = standing.used.client; flow = flow; sent = sent })
   pub there : address ≡ address_of flow.request
   pub waits : IsDialling flows.stream.phase
 
 led_dials : (proxy : Option Address) (found : Phase) (address : Address) → tells.led_by proxy found ≡ Some address → IsDialling found
 led_dials None found address is = absurd (let no : None ≡ Some address = is in cc)
-led_dials (Some proxy) (phase.Asked (asked.Connection flow server)) address is = tt
+led_dials (Some proxy) (phase.Asked (asked.Connection flow server up)) address is = tt
 led_dials (Some proxy) (phase.Asked (asked.Idle flow expects)) address is = absurd (let no : None ≡ Some address = is in cc)
 led_dials (Some proxy) (phase.Asked (asked.RequestBody flow)) address is = absurd (let no : None ≡ Some address = is in cc)
-led_dials (Some proxy) (phase.Asked (asked.ResponseHead flow server)) address is = absurd (let no : None ≡ Some address = is in cc)
-led_dials (Some proxy) (phase.Asked (asked.ResponseBody flow server)) address is = absurd (let no : None ≡ Some address = is in cc)
+led_dials (Some proxy) (phase.Asked (asked.ResponseHead flow server up)) address is = absurd (let no : None ≡ Some address = is in cc)
+led_dials (Some proxy) (phase.Asked (asked.ResponseBody flow server up)) address is = absurd (let no : None ≡ Some address = is in cc)
 led_dials (Some proxy) (phase.Asked (asked.GivenHead flow)) address is = absurd (let no : None ≡ Some address = is in cc)
 led_dials (Some proxy) (phase.Asked (asked.GivenBody flow)) address is = absurd (let no : None ≡ Some address = is in cc)
 led_dials (Some proxy) (phase.Ready looked) address is = absurd (let no : None ≡ Some address = is in cc)
-
--- where the server of the flow is that is dialled
-dialled_server : (found : Phase) (flow : Flow) → dialled_flow found ≡ Some flow → server_dialled found ≡ Some (address_of flow.request)
-dialled_server (phase.Asked (asked.Connection here server)) flow is = let same : here ≡ flow = cc in ap (λ f. Some (address_of f.request)) same
-dialled_server (phase.Asked (asked.Idle here expects)) flow is = absurd (let no : None ≡ Some flow = is in cc)
-dialled_server (phase.Asked (asked.RequestBody here)) flow is = absurd (let no : None ≡ Some flow = is in cc)
-dialled_server (phase.Asked (asked.ResponseHead here server)) flow is = absurd (let no : None ≡ Some flow = is in cc)
-dialled_server (phase.Asked (asked.ResponseBody here server)) flow is = absurd (let no : None ≡ Some flow = is in cc)
-dialled_server (phase.Asked (asked.GivenHead here)) flow is = absurd (let no : None ≡ Some flow = is in cc)
-dialled_server (phase.Asked (asked.GivenBody here)) flow is = absurd (let no : None ≡ Some flow = is in cc)
-dialled_server (phase.Ready looked) flow is = absurd (let no : None ≡ Some flow = is in cc)
 
 same_address : (a b : Address) → Some a ≡ Some b → b ≡ a
 same_address a b is = cc
@@ -164,10 +176,11 @@ module _ (conv : ℕ) (client : Visitor) (flows : HttpConv) (standing : Standing
       let dials = led_dials (Some proxy) flows.stream.phase to is in
       let there = is_at_dial (terms_of conv client.address place) flows.stream standing.stage (sight_over standing prefix) dials at.is_at.is_in in
       let flow_is : dialled_flow flows.stream.phase ≡ Some there.flow =
-      flow_there (terms_of conv client.address place) (ahead_at place) flows standing prefix there.at there.flow there.stage_is at in
+      flow_there (terms_of conv client.address place) (ahead_at place) flows standing prefix there.at there.flow there.sent there.stage_is at in
       record {
         at = there.at;
         flow = there.flow;
+        sent = there.sent;
         stage = there.stage_is;
         led = ap (led_by standing.used.client) there.stage_is;
         there = same_address (address_of there.flow.request) to (sym (dialled_server flows.stream.phase there.flow flow_is) ∙ is);

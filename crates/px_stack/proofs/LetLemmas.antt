@@ -19,20 +19,20 @@ use Rattle.px_event.proofs.Seen.{seen_append}
 use Rattle.px_exchange.specs.declared.ending.Used.{Used}
 use Rattle.px_exchange.specs.declared.ending.Used.TheVariants.{ByServer, NoServer}
 use Rattle.px_exchange.specs.declared.place.Place.{Place}
-use Rattle.px_exchange.specs.Dials.{connected_owes}
 use Rattle.px_exchange.specs.Endings.{ends_by_fault, refuses, shut_all, shut_client, shut_server}
 use Rattle.px_exchange.specs.Places.{terms_of}
 use Rattle.px_chain.specs.Chain.{reached}
 use Rattle.px_chain.specs.Sights.{Standing}
-use Rattle.px_chain.specs.Stages.{At, Parked, all_sent, busy, connection, response_head}
+use Rattle.px_chain.specs.Stages.{At, Parked, busy, connection, response_head, Sent}
 use Rattle.px_chain.specs.Streams.{Since, bytes_of, client_closed, from_here, is_closed, now_over}
 use Rattle.px_chain.proofs.FrontLaws.{now_here, open_behind}
 use Rattle.px_http.specs.declared.conversation.HttpConv.{HttpConv}
 use Rattle.px_stream.specs.declared.phase.Asked.TheVariants as asked
 use Rattle.px_stream.specs.declared.phase.Phase.{Phase}
 use Rattle.px_stream.specs.declared.phase.Phase.TheVariants as phase
-use Rattle.px_stream.specs.Anywhere.{MayReach, OpensInTime, Reaches, Somewhere}
+use Rattle.px_stream.specs.Anywhere.{MayReach, OpensInTime, Reaches, Somewhere, reached_owes}
 use Rattle.px_stream.specs.Tells.{IsDialling, dialled_flow, sequence_left}
+use Rattle.px_stack.proofs.TimeLemmas.{in_time_passed}
 use Rattle.px_stack.specs.declared.child.Child.{Child}
 use Rattle.px_stack.specs.declared.child.Child.TheVariants as children
 use Rattle.px_stack.specs.declared.child.Goal.{Goal as KeptGoal}
@@ -43,7 +43,7 @@ use Rattle.px_stack.specs.Kept.{awaited_by, goal_left, left_by, tunnel_left}
 use Rattle.px_tunnel.proofs.UpstreamLemmas.{granted_within}
 use Rattle.px_stack.specs.Stages.{Dialling, Goal, Link, Stage, Tunnel, Visitor, a_flow, a_tunnel, over, reaching}
 use Rattle.px_stack.specs.Stands.{InTime, IsAskedFor, IsChild, IsGoal, IsLedOn, ahead_at}
-use Rattle.px_stack.specs.Steps.{Adds, Arrives, CanGoOn, CanReach, EndsRefused, Follows, FollowsAt, IsBehind, IsFewDials, IsGoalSomewhere, IsLetThrough, IsTurnedAway, Leads, LeadsThere, LetsThrough, MayDecide, MayGoOn, Tells, TurnsAway, flow_reached}
+use Rattle.px_stack.specs.Steps.{Adds, Arrives, CanGoOn, CanReach, EndsRefused, Follows, FollowsAt, IsBehind, IsFewDials, IsGoalSomewhere, IsLetThrough, IsTurnedAway, Leads, LeadsThere, LetsThrough, MayDecide, MayGoOn, Tells, TurnsAway, flow_reached, follows_to}
 use Rattle.px_stack.proofs.LedLemmas.{closed_there, flow_there}
 use Rattle.px_stack.proofs.SaidLemmas.{same_close, same_text}
 use Rattle.px_stack.proofs.RelayLemmas.{given_twice}
@@ -200,7 +200,7 @@ module _ (conv : ℕ) (client : Visitor) (server : ℕ) (shut before : Bool) (mo
   away_flow boxed flow dialled (a_tunnel tunnel) link since prefix may turned = absurd may.waiting
   away_flow boxed flow dialled (a_flow place from) link since prefix may turned =
       let led : IsLedOn conv client place from link prefix boxed.value = may.waiting in
-      let flow_is : flow ≡ from.flow = same_flow flow from.flow (sym dialled ∙ flow_there (terms_of conv client.address place) (ahead_at place) boxed.value led.standing prefix led.at from.flow led.stage led.there) in
+      let flow_is : flow ≡ from.flow = same_flow flow from.flow (sym dialled ∙ flow_there (terms_of conv client.address place) (ahead_at place) boxed.value led.standing prefix led.at from.flow from.sent led.stage led.there) in
       away_as (a_flow place from) link since prefix (ends_by_fault flow UpstreamRefused moment (ByServer server shut) before)
       (ends_by_fault from.flow UpstreamRefused (now_over since prefix) (used_proxy link prefix) (closed_before link prefix))
       (ap (pass_reached conv client (a_flow place from) link since prefix) turned.answer)
@@ -210,9 +210,12 @@ module _ (conv : ℕ) (client : Visitor) (server : ℕ) (shut before : Bool) (mo
 
 -- ---- a flow goes on
 
+regroup : (a b c d : List Command) → (a ++ b) ++ (c ++ d) ≡ (a ++ (b ++ c)) ++ d
+regroup a b c d = append_assoc a b (c ++ d) ∙ (ap (λ l. a ++ l) (sym (append_assoc b c d)) ∙ sym (append_assoc a (b ++ c) d))
+
 -- the flow that is dialled is one
-same_dial : (a b : At) (f g : Flow) → busy a f connection ≡ busy b g connection → (b ≡ a) × (g ≡ f)
-same_dial a b f g is = (let e : b ≡ a = cc in e, let e : g ≡ f = cc in e)
+same_dial : (a b : At) (f g : Flow) (s t : Sent) → busy a f (connection s) ≡ busy b g (connection t) → (b ≡ a) × (g ≡ f) × (t ≡ s)
+same_dial a b f g s t is = (let e : b ≡ a = cc in e, let e : g ≡ f = cc in e, let e : t ≡ s = cc in e)
 
 module _ (conv : ℕ) (client : Visitor) (boxed : Box HttpConv) (place : Place) (from : Dialling) (link : Link) (since : Since) (prefix : List (Timed Event)) (used : ℕ)
     (rest : List ℕ) (moment : ℕ) (may : MayGoOn conv client (a_flow place from) link since prefix link.server (goals.Flow boxed) moment) (behind : IsBehind link used prefix rest) where
@@ -240,11 +243,13 @@ module _ (conv : ℕ) (client : Visitor) (boxed : Box HttpConv) (place : Place) 
       record {
         at = led.at;
         flow = from.flow;
+        sent = from.sent;
         dialling = led.stage;
         there = led.there;
-        stage = ap (λ n. busy (record from.at { dials = from.at.dials + 1 }) (reached place from.flow) (response_head n all_sent)) server_is
-            ∙ ap (λ (a : At). busy (record a { dials = a.dials + 1 }) (reached place from.flow) (response_head a.dials all_sent)) led.from_is;
+        stage = ap (λ n. busy (record from.at { dials = from.at.dials + 1 }) (reached place from.flow) (response_head n from.sent)) server_is
+            ∙ ap (λ (a : At). busy (record a { dials = a.dials + 1 }) (reached place from.flow) (response_head a.dials from.sent)) led.from_is;
         client = led.used_is;
+        told = refl;
         come = there.come;
         unshut = there.unshut;
         within = record { since = omega arith; opened = there.opened; client = subst U (sym led.used_is) led.there.is_at.within.client; server = there.used };
@@ -257,29 +262,45 @@ module _ (conv : ℕ) (client : Visitor) (boxed : Box HttpConv) (place : Place) 
 
   module _ (after : HttpConv) (next : Child) (out mid : List Command) (second : List Command) (reaches : Reaches boxed.value.stream after.stream moment rest out mid)
       (follows : Follows client.key moment after next second) where
-    reached_on : FollowsAt conv client after next second place there_on prefix
-    reached_on =
-        follows conv client place there_on prefix refl (may.now ∙ sym (now_here (now_over since prefix) prefix))
-        (reaches.reaches (terms_of conv client.address place) (ahead_at place) led.standing there_on prefix may_reach).is_there in_time_on
+    -- where it has passed on
+    abbrev on_there : Turn Standing Command
+    on_there = (flows_at conv client place).pass there_on prefix
 
-    leads_on : LeadsThere conv client next (reaches.more ++ second) (connected_owes place from.flow link.server) (flow_reached place from link used since prefix) prefix
+    reached_on : FollowsAt conv client after next second place on_there.stage prefix
+    reached_on =
+        follows conv client place on_there.stage prefix refl (may.now ∙ sym (now_here (now_over since prefix) prefix))
+        (reaches.reaches (terms_of conv client.address place) (ahead_at place) led.standing there_on prefix may_reach).is_there
+        (in_time_passed (terms_of conv client.address place) there_on prefix in_time_on)
+
+    -- its server is owed that at the place where it is
+    owes_same : reached_owes may_reach.sent place may_reach.flow may_reach.at.dials ≡ reached_owes from.sent place from.flow link.server
+    owes_same =
+        let same = same_dial led.at may_reach.at from.flow may_reach.flow from.sent may_reach.sent (sym led.stage ∙ may_reach.dialling) in
+        ap (λ s. reached_owes s place may_reach.flow may_reach.at.dials) same.2
+        ∙ (ap (λ f. reached_owes from.sent place f may_reach.at.dials) same.1
+        ∙ (ap (λ (a : At). reached_owes from.sent place from.flow a.dials) same.0
+        ∙ ap (λ n. reached_owes from.sent place from.flow n) (sym number)))
+
+    leads_on : LeadsThere conv client next (reaches.more ++ second) (flow_reached conv client place from link used since prefix).owed (flow_reached conv client place from link used since prefix).stage prefix
     leads_on =
         let on = reached_on in
         let there = reaches.reaches (terms_of conv client.address place) (ahead_at place) led.standing there_on prefix may_reach in
-        let same = same_dial led.at may_reach.at from.flow may_reach.flow (sym led.stage ∙ may_reach.dialling) in
-        let owes : List Command = connected_owes place may_reach.flow may_reach.at.dials in
-        let here : List Command = owed_here (flows_at conv client place) there_on prefix in
+        let first : List Command = reached_owes may_reach.sent place may_reach.flow may_reach.at.dials in
+        let owes : List Command = reached_owes from.sent place from.flow link.server in
+        let here : List Command = owed_here (flows_at conv client place) on_there.stage prefix in
+        let to : Turn Stage Command = follows_to conv client place on_there.stage prefix in
+        let rest : List Command = owed_here (stack_chain conv client) to.stage prefix in
         record {
           there = on.there;
           gives = λ view.
               seen_append view reaches.more second
-              ∙ (ap (λ l. l ++ seen_of view second) (there.gives view ∙ seen_append view owes here)
-              ∙ (append_assoc (seen_of view owes) (seen_of view here) (seen_of view second)
-              ∙ (ap (λ l. seen_of view owes ++ l) (on.gives view)
-              ∙ (sym (seen_append view owes _)
-              ∙ (ap (λ f. seen_of view (connected_owes place f may_reach.at.dials ++ owed_here (stack_chain conv client) (flow_reached place from link used since prefix) prefix)) same.1
-              ∙ (ap (λ (a : At). seen_of view (connected_owes place from.flow a.dials ++ owed_here (stack_chain conv client) (flow_reached place from link used since prefix) prefix)) same.0
-              ∙ ap (λ n. seen_of view (connected_owes place from.flow n ++ owed_here (stack_chain conv client) (flow_reached place from link used since prefix) prefix)) (sym number)))))));
+              ∙ (ap (λ l. l ++ seen_of view second)
+              (there.gives view
+              ∙ (ap (λ l. seen_of view (l ++ (on_there.owed ++ here))) owes_same
+              ∙ (ap (seen_of view) (sym (append_assoc owes on_there.owed here)) ∙ seen_append view (owes ++ on_there.owed) here)))
+              ∙ (append_assoc (seen_of view (owes ++ on_there.owed)) (seen_of view here) (seen_of view second)
+              ∙ (ap (λ l. seen_of view (owes ++ on_there.owed) ++ l) (on.gives view)
+              ∙ (sym (seen_append view (owes ++ on_there.owed) (to.owed ++ rest)) ∙ ap (seen_of view) (regroup owes on_there.owed to.owed rest)))));
         }
 
     -- and the bound on what it may still ask
@@ -352,7 +373,7 @@ module _ (server : ℕ) (boxed : Box HttpConv) (rest heard : List ℕ) (moment :
       IsLedOn conv client place from link prefix boxed.value → (lets : IsLetThrough link prefix rest) → IsBehind link lets.used prefix heard
   flow_behind conv client place from link prefix led lets =
       behind_head link prefix boxed.value.stream.client_closed rest heard
-      (closed_there (terms_of conv client.address place) (ahead_at place) boxed.value led.standing prefix led.at from.flow led.stage led.there) is_heard lets
+      (closed_there (terms_of conv client.address place) (ahead_at place) boxed.value led.standing prefix led.at from.flow from.sent led.stage led.there) is_heard lets
 
   pub can_reach : CanGoOn server (goals.Flow boxed) rest moment → CanReach boxed heard moment
   can_reach can = by can.goal can.may
@@ -409,11 +430,11 @@ flow_somewhere goal boxed is somewhere = let P : KeptGoal → Type 0 = IsGoalSom
 
 -- the flow that waits is there
 pub some_dialled : (found : Phase) → IsDialling found → (flow : Flow) × (dialled_flow found ≡ Some flow)
-some_dialled (phase.Asked (asked.Connection flow server)) waits = (flow, refl)
+some_dialled (phase.Asked (asked.Connection flow server up)) waits = (flow, refl)
 some_dialled (phase.Asked (asked.Idle flow expects)) waits = absurd waits
 some_dialled (phase.Asked (asked.RequestBody flow)) waits = absurd waits
-some_dialled (phase.Asked (asked.ResponseHead flow server)) waits = absurd waits
-some_dialled (phase.Asked (asked.ResponseBody flow server)) waits = absurd waits
+some_dialled (phase.Asked (asked.ResponseHead flow server up)) waits = absurd waits
+some_dialled (phase.Asked (asked.ResponseBody flow server up)) waits = absurd waits
 some_dialled (phase.Asked (asked.GivenHead flow)) waits = absurd waits
 some_dialled (phase.Asked (asked.GivenBody flow)) waits = absurd waits
 some_dialled (phase.Ready looked) waits = absurd waits

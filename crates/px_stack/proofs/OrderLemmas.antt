@@ -28,7 +28,7 @@ use Rattle.px_exchange.specs.Endings.{ends_by_fault, refuses, shut_all, shut_cli
 use Rattle.px_exchange.specs.Places.{address_of, dialled_for, terms_of}
 use Rattle.px_chain.specs.Chain.{Connect, behind as behind_of, connect_in, look as look_of, so_far as so_far_of}
 use Rattle.px_chain.specs.Sights.{Sight, Standing, request_in, server_parked, sight_over}
-use Rattle.px_chain.specs.Stages.{At, busy, coming_down, connection, given_body, given_head, idle, next, request_body, response_body, response_head, unparked, upgraded}
+use Rattle.px_chain.specs.Stages.{At, busy, coming_down, connection, given_body, given_head, idle, next, request_body, response_body, response_head, unparked, upgraded, Sent, all_sent, going_up}
 use Rattle.px_chain.specs.Stages as flows
 use Rattle.px_chain.specs.Streams.{Since, client_closed, from_here, now_over}
 use Rattle.px_http.proofs.OrderLemmas.{is_counted as is_counted_there, is_counted_at, is_past, is_past_at, leaves_flows}
@@ -40,7 +40,8 @@ use Rattle.px_relay.specs.Messages.{Message}
 use Rattle.px_relay.specs.Sending.{Terms}
 use Rattle.px_relay.specs.Sights.{Sight as SocketSight}
 use Rattle.px_relay.specs.Stages.{At as MessageAt, Stage as Frames, holding, over as ended, relaying}
-use Rattle.px_stack.specs.Chain.{answer_of, asks_proxy, begun, closed_before, closed_of, closes_all, dialled_by, finished_flow, flows_at, follows, goes_by, hands_by, has_answered, is_shut, led_at, led_by, opening_text, or_stays, pass_http, pass_reached, pass_socket, raw_look, socket_sight, socket_terms, stack_chain, tunnel_for, tunnel_found, turn_connected, turn_dial, turn_flows, turn_http, upgrades, used_proxy, way_to}
+use Rattle.px_stream.specs.Anywhere.{reached_owes}
+use Rattle.px_stack.specs.Chain.{answer_of, asks_proxy, begun, closed_before, closed_of, closes_all, dialled_by, finished_flow, flows_at, follows, goes_by, hands_by, has_answered, is_shut, led_at, led_by, opening_text, or_stays, pass_http, pass_reached, pass_socket, raw_look, socket_sight, socket_terms, stack_chain, tunnel_for, tunnel_found, turn_connected, turn_dial, turn_flows, turn_http, upgrades, used_proxy, way_to, connected_on}
 use Rattle.px_stack.specs.Decides.{Decision, decided, is_http, is_raw, still}
 use Rattle.px_stack.specs.Frames.{AreSaid, IsOver, pass_says, turn_says}
 use Rattle.px_stack.specs.Sockets.{is_websocket}
@@ -240,8 +241,8 @@ module _ (conv : ℕ) (client : Visitor) where
   hands_follow : (place : Place) (standing : Standing) (stage : flows.Stage) (seen : Sight) → standing.stage ≡ stage →
       Follows standing (or_stays (http place standing) (hands_by place standing stage seen))
   hands_follow place standing (idle at) seen is = tunnel_follows place standing standing.used.client at (connect_in place (request_in seen)) is
-  hands_follow place standing (busy at flow (request_body given)) seen is = same_follows place standing
-  hands_follow place standing (busy at flow connection) seen is = same_follows place standing
+  hands_follow place standing (busy at flow (request_body given most)) seen is = same_follows place standing
+  hands_follow place standing (busy at flow (connection sent)) seen is = same_follows place standing
   hands_follow place standing (busy at flow (response_head side how)) seen is = same_follows place standing
   hands_follow place standing (busy at flow (response_body side how most)) seen is = same_follows place standing
   hands_follow place standing (busy at flow (coming_down side how)) seen is = same_follows place standing
@@ -330,15 +331,6 @@ module _ (conv : ℕ) (client : Visitor) where
       ends_there (a_flow place from) link since (ends_by_fault from.flow UpstreamRefused (now_over since prefix) (used_proxy link prefix) (closed_before link prefix))
       (record { ordered = (closes.none from.flow.id.index, closes.ordered); none = closes.none })
 
-  reached_leaves : (goal : Goal) (link : Link) (since : Since) (prefix : List (Timed Event)) (g : Granting) → is_counted_goal goal ≡ true →
-      Leaves (reaching goal link since) (pass_reached conv client goal link since prefix g).owed (pass_reached conv client goal link since prefix g).stage
-  reached_leaves goal link since prefix awaited is = quietly (reaching goal link since) (reaching goal link since) (λ index before. before) is
-  reached_leaves (a_tunnel tunnel) link since prefix (granted used) is = opened_leaves tunnel link since prefix used
-  reached_leaves (a_flow place from) link since prefix (granted used) is =
-      record { ordered = tt; asks_none = λ index before. tt; ends = λ index ends. absurd ends; keeps = λ index before. before; leads = is }
-  reached_leaves (a_tunnel tunnel) link since prefix refused is = refused_tunnel tunnel link since prefix
-  reached_leaves (a_flow place from) link since prefix refused is = refused_flow place from link since prefix
-
   -- ---- a WebSocket
 
   socket_leaves : (ends : TunnelEnds) (flow : Flow) (frames to : Frames) (owed : List Command) → AreSaid (socket_terms client.key ends flow) to owed →
@@ -395,6 +387,24 @@ module _ (conv : ℕ) (client : Visitor) where
       leads_on place standing on.stage on.owed to (hands_follow place on.stage on.stage.stage (sight_over on.stage prefix) refl) ((flows_leave place).passes standing prefix is) in
       leaves_further (http place standing) to _ on.owed _ first (begun_leaves to prefix first.leads)
 
+  -- a flow goes on whose server is reached
+  flow_leaves : (sent : Sent) (place : Place) (from : Dialling) (link : Link) (since : Since) (to : Standing) →
+      ((index : ℕ) → is_behind (reaching (a_flow place from) link since) index ≡ true → is_behind (http place to) index ≡ true) → is_counted (http place to) ≡ true →
+      Leaves (reaching (a_flow place from) link since) (reached_owes sent place from.flow link.server) (http place to)
+  flow_leaves all_sent place from link since to keeps leads = record { ordered = tt; asks_none = λ index before. tt; ends = λ index ends. absurd ends; keeps = keeps; leads = leads }
+  flow_leaves going_up place from link since to keeps leads = record { ordered = tt; asks_none = λ index before. tt; ends = λ index ends. absurd ends; keeps = keeps; leads = leads }
+
+  reached_leaves : (goal : Goal) (link : Link) (since : Since) (prefix : List (Timed Event)) (g : Granting) → is_counted_goal goal ≡ true →
+      Leaves (reaching goal link since) (pass_reached conv client goal link since prefix g).owed (pass_reached conv client goal link since prefix g).stage
+  reached_leaves goal link since prefix awaited is = quietly (reaching goal link since) (reaching goal link since) (λ index before. before) is
+  reached_leaves (a_tunnel tunnel) link since prefix (granted used) is = opened_leaves tunnel link since prefix used
+  reached_leaves (a_flow place from) link since prefix (granted used) is =
+      let to : Standing = connected_on place from (way_to link used prefix) (from_here (now_over since prefix) prefix) in
+      leaves_further (reaching (a_flow place from) link since) (http place to) _ (reached_owes from.sent place from.flow link.server) _
+      (flow_leaves from.sent place from link since to (λ index before. before) is) (http_passes place to prefix is)
+  reached_leaves (a_tunnel tunnel) link since prefix refused is = refused_tunnel tunnel link since prefix
+  reached_leaves (a_flow place from) link since prefix refused is = refused_flow place from link since prefix
+
   passes : (stage : Stage) (prefix : List (Timed Event)) → is_counted stage ≡ true →
       Leaves stage ((stack_chain conv client).pass stage prefix).owed ((stack_chain conv client).pass stage prefix).stage
   passes (http place standing) prefix is = http_passes place standing prefix is
@@ -446,7 +456,8 @@ module _ (conv : ℕ) (client : Visitor) where
   -- it stands where its server is dialled, in the place
   record IsLedTo (stage : flows.Stage) (from : Dialling) : Type 0 where
     at : At
-    stands : stage ≡ busy at from.flow connection
+    sent : Sent
+    stands : stage ≡ busy at from.flow (connection sent)
     from_there : from.at ≡ unparked at
 
   abbrev IsLed : flows.Stage → Option Dialling → Type 0
@@ -455,8 +466,8 @@ module _ (conv : ℕ) (client : Visitor) where
 
   led_is_by : (used : ℕ) (stage : flows.Stage) → IsLed stage (led_by used stage)
   led_is_by used (idle at) = tt
-  led_is_by used (busy at flow (request_body given)) = tt
-  led_is_by used (busy at flow connection) = record { at = at; stands = refl; from_there = refl }
+  led_is_by used (busy at flow (request_body given most)) = tt
+  led_is_by used (busy at flow (connection sent)) = record { at = at; sent = sent; stands = refl; from_there = refl }
   led_is_by used (busy at flow (response_head side how)) = tt
   led_is_by used (busy at flow (response_body side how most)) = tt
   led_is_by used (busy at flow (coming_down side how)) = tt
@@ -480,7 +491,7 @@ module _ (conv : ℕ) (client : Visitor) where
   led_owes place standing prefix ask from is asked owed =
       let seen : Sight = sight_over standing prefix in
       let closes : List Command = shut_server (server_parked is.at.parked seen) in
-      let nothing : so_far_of standing.stage seen ≡ [] = ap (λ s. so_far_of s seen) is.stands in
+      let nothing : so_far_of (terms_of conv client.address place) standing.stage seen ≡ [] = ap (λ s. so_far_of (terms_of conv client.address place) s seen) is.stands in
       let parts : behind_of standing.stage seen ≡ closes = ap (λ s. behind_of s seen) is.stands in
       let dial : Asks (commands.Dial is.at.dials (dialled_for place from.flow.request) None) ≡ Asks ask =
       sym (ap (λ s. look_of (terms_of conv client.address place) s seen) is.stands) ∙ asked in

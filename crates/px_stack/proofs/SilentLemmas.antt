@@ -24,7 +24,7 @@ use Rattle.px_exchange.specs.Places.{address_of, terms_of}
 use Rattle.px_chain.specs.Chain.{Connect, connect_in, is_sequence, sequence}
 use Rattle.px_chain.specs.Sights.{Sight, Standing, request_in, sight_over}
 use Rattle.px_chain.specs.Silent.{NoAnswer, connects}
-use Rattle.px_chain.specs.Stages.{At, busy, coming_down, connection, given_body, given_head, idle, next, request_body, response_body, response_head, upgraded}
+use Rattle.px_chain.specs.Stages.{At, busy, coming_down, connection, given_body, given_head, idle, next, request_body, response_body, response_head, upgraded, Sent, all_sent, going_up}
 use Rattle.px_chain.specs.Stages as flows
 use Rattle.px_chain.specs.Streams.{Since, client_closed, from_here, now_over}
 use Rattle.px_chain.proofs.CountedLemmas.{Counts, CountsServers, IsSilent, counted_silent, silent_both}
@@ -33,7 +33,8 @@ use Rattle.px_tunnel.specs.Upstream.{Granting, awaited, connect_text, granted, r
 use Rattle.px_relay.specs.Chain as relay
 use Rattle.px_relay.specs.Sending.{Terms}
 use Rattle.px_relay.specs.Stages.{Stage as Frames, holding, over as ended, relaying}
-use Rattle.px_stack.specs.Chain.{answer_of, asks_proxy, begins, begun, closed_before, closed_of, closes_all, finished_flow, flows_at, follows, goes_by, hands_by, has_answered, is_empty, is_shut, led_at, led_by, opening_text, or_stays, pass_http, pass_reached, pass_socket, socket_sight, socket_terms, socket_turn, stack_chain, text_behind, text_down, text_up, tunnel_for, tunnel_found, turn_connected, turn_dial, turn_flows, turn_http, upgrades, used_proxy, way_by, way_to}
+use Rattle.px_stream.specs.Anywhere.{reached_owes}
+use Rattle.px_stack.specs.Chain.{answer_of, asks_proxy, begins, begun, closed_before, closed_of, closes_all, finished_flow, flows_at, follows, goes_by, hands_by, has_answered, is_empty, is_shut, led_at, led_by, opening_text, or_stays, pass_http, pass_reached, pass_socket, socket_sight, socket_terms, socket_turn, stack_chain, text_behind, text_down, text_up, tunnel_for, tunnel_found, turn_connected, turn_dial, turn_flows, turn_http, upgrades, used_proxy, way_by, way_to, pass_flows, connected_on}
 use Rattle.px_stack.specs.Decides.{Decision, decided, is_http, is_raw, still}
 use Rattle.px_stack.specs.Frames.{AreSaid, Says, pass_says, turn_says}
 use Rattle.px_stack.specs.Modes.{mode_due}
@@ -102,6 +103,11 @@ module _ (server : ℕ) where
   sent_silent : (number : ℕ) (text : List ℕ) → number + 1 ≤ server → IsSilent server (commands.Send (Server number) text ∷ [])
   sent_silent number text below = ap (λ same. bytes_in (cond same (map byte text) [] ++ [])) (other number (number == server) refl below)
 
+  -- what a server is owed that is reached
+  reached_silent : (sent : Sent) (place : Place) (flow : Flow) (number : ℕ) → number + 1 ≤ server → IsSilent server (reached_owes sent place flow number)
+  reached_silent all_sent place flow number below = sent_silent number _ below
+  reached_silent going_up place flow number below = refl
+
   both_silent : (number : ℕ) (up down : List ℕ) → number + 1 ≤ server → IsSilent server (commands.Send (Server number) up ∷ commands.Send Client down ∷ [])
   both_silent number up down below =
       ap (λ same. bytes_in (cond same (map byte up) [] ++ [])) (other number (number == server) refl below)
@@ -149,8 +155,8 @@ module _ (conv : ℕ) (client : Visitor) where
   hands_few : (place : Place) (standing : Standing) (stage : flows.Stage) (seen : Sight) → standing.stage ≡ stage → AreBelow standing → ServersBelow stage →
       Few (dialled_at standing) (or_stays (http place standing) (hands_by place standing stage seen))
   hands_few place standing (idle at) seen is below here = tunnel_few place standing standing.used.client at (connect_in place (request_in seen)) is below
-  hands_few place standing (busy at flow (request_body given)) seen is below here = (omega arith, below)
-  hands_few place standing (busy at flow connection) seen is below here = (omega arith, below)
+  hands_few place standing (busy at flow (request_body given most)) seen is below here = (omega arith, below)
+  hands_few place standing (busy at flow (connection sent)) seen is below here = (omega arith, below)
   hands_few place standing (busy at flow (response_head side how)) seen is below here = (omega arith, below)
   hands_few place standing (busy at flow (response_body side how most)) seen is below here = (omega arith, below)
   hands_few place standing (busy at flow (coming_down side how)) seen is below here = (omega arith, below)
@@ -196,30 +202,6 @@ module _ (conv : ℕ) (client : Visitor) where
       (way_there link used prefix tunnel.at.dials below) in
       record { silent = λ server beyond. refl; few = few.0; stays = few.1 }
 
-  connected_counts : (place : Place) (from : Dialling) (link : Link) (since : Since) (prefix : List (Timed Event)) (used : ℕ) → link.server ≡ from.at.dials →
-      Counts dials_at AllBelow (from.at.dials + 1) (pass_reached conv client (a_flow place from) link since prefix (granted used))
-  connected_counts place from link since prefix used is = record {
-    silent = λ server beyond. sent_silent server link.server _ (omega arith);
-    few = omega arith;
-    stays = way_there link used prefix (from.at.dials + 1) (omega arith);
-  }
-
-  reached_counts : (goal : Goal) (link : Link) (since : Since) (prefix : List (Timed Event)) (g : Granting) → GoalBelow goal link.server →
-      Counts dials_at AllBelow (dials_of goal) (pass_reached conv client goal link since prefix g)
-  reached_counts goal link since prefix awaited is = quietly (dials_of goal) (reaching goal link since) (omega arith, is)
-  reached_counts (a_tunnel tunnel) link since prefix (granted used) is = opened_counts tunnel link since prefix used is
-  reached_counts (a_flow place from) link since prefix (granted used) is = connected_counts place from link since prefix used is
-  reached_counts (a_tunnel tunnel) link since prefix refused is = record {
-    silent = λ server beyond. closes_silent server link.server (closed_of link.server (drop link.opened prefix)) (closed_before link prefix);
-    few = omega arith;
-    stays = tt;
-  }
-  reached_counts (a_flow place from) link since prefix refused is = record {
-    silent = λ server beyond. fault_silent server from.flow UpstreamRefused (now_over since prefix) (used_proxy link prefix) (closed_before link prefix);
-    few = omega arith;
-    stays = tt;
-  }
-
   -- a WebSocket
   socket_counts : (ends : TunnelEnds) (flow : Flow) (most : ℕ) (on : Turn Frames Command) → ends.link.server + 1 ≤ most → Says (socket_terms client.key ends flow) on →
       Counts dials_at AllBelow most (socket_turn ends flow on)
@@ -242,8 +224,10 @@ module _ (conv : ℕ) (client : Visitor) where
   begun_counts (socket ends flow frames) prefix is = socket_passes ends flow frames prefix
   begun_counts over prefix is = quietly 0 over (omega arith, tt)
 
-  passes : (stage : Stage) (prefix : List (Timed Event)) → AllBelow stage → Counts dials_at AllBelow (dials_at stage) ((stack_chain conv client).pass stage prefix)
-  passes (http place standing) prefix is =
+  -- HTTP passes on
+  flows_pass : (place : Place) (standing : Standing) (prefix : List (Timed Event)) → AreBelow standing →
+      Counts dials_at AllBelow (dialled_at standing) (pass_flows conv client place standing prefix)
+  flows_pass place standing prefix is =
       let on = (flows_at conv client place).pass standing prefix in
       let counts = (flows_count place).passes standing prefix is in
       let few = hands_few place on.stage on.stage.stage (sight_over on.stage prefix) refl counts.stays counts.stays in
@@ -257,6 +241,37 @@ module _ (conv : ℕ) (client : Visitor) where
         few = omega arith;
         stays = further.stays;
       }
+
+  connected_counts : (place : Place) (from : Dialling) (link : Link) (since : Since) (prefix : List (Timed Event)) (used : ℕ) → link.server ≡ from.at.dials →
+      Counts dials_at AllBelow (from.at.dials + 1) (pass_reached conv client (a_flow place from) link since prefix (granted used))
+  connected_counts place from link since prefix used is =
+      let to : Standing = connected_on place from (way_to link used prefix) (from_here (now_over since prefix) prefix) in
+      let owes : List Command = reached_owes from.sent place from.flow link.server in
+      let on = flows_pass place to prefix (way_there link used prefix (from.at.dials + 1) (omega arith)) in
+      record {
+        silent = λ server beyond. silent_both server owes (pass_flows conv client place to prefix).owed (reached_silent server from.sent place from.flow link.server (omega arith)) (on.silent server beyond);
+        few = on.few;
+        stays = on.stays;
+      }
+
+  reached_counts : (goal : Goal) (link : Link) (since : Since) (prefix : List (Timed Event)) (g : Granting) → GoalBelow goal link.server →
+      Counts dials_at AllBelow (dials_of goal) (pass_reached conv client goal link since prefix g)
+  reached_counts goal link since prefix awaited is = quietly (dials_of goal) (reaching goal link since) (omega arith, is)
+  reached_counts (a_tunnel tunnel) link since prefix (granted used) is = opened_counts tunnel link since prefix used is
+  reached_counts (a_flow place from) link since prefix (granted used) is = connected_counts place from link since prefix used is
+  reached_counts (a_tunnel tunnel) link since prefix refused is = record {
+    silent = λ server beyond. closes_silent server link.server (closed_of link.server (drop link.opened prefix)) (closed_before link prefix);
+    few = omega arith;
+    stays = tt;
+  }
+  reached_counts (a_flow place from) link since prefix refused is = record {
+    silent = λ server beyond. fault_silent server from.flow UpstreamRefused (now_over since prefix) (used_proxy link prefix) (closed_before link prefix);
+    few = omega arith;
+    stays = tt;
+  }
+
+  passes : (stage : Stage) (prefix : List (Timed Event)) → AllBelow stage → Counts dials_at AllBelow (dials_at stage) ((stack_chain conv client).pass stage prefix)
+  passes (http place standing) prefix is = flows_pass place standing prefix is
   passes (connecting tunnel) prefix is = quietly tunnel.at.dials (connecting tunnel) (omega arith, tt)
   passes (reaching goal link since) prefix is = reached_counts goal link since prefix (answer_of link prefix) is
   passes (undecided tunnel link since) prefix is =
@@ -330,8 +345,8 @@ module _ (conv : ℕ) (client : Visitor) where
 
   led_is_by : (used : ℕ) (stage : flows.Stage) → IsLed stage (led_by used stage)
   led_is_by used (idle at) = tt
-  led_is_by used (busy at flow (request_body given)) = tt
-  led_is_by used (busy at flow connection) = refl
+  led_is_by used (busy at flow (request_body given most)) = tt
+  led_is_by used (busy at flow (connection sent)) = refl
   led_is_by used (busy at flow (response_head side how)) = tt
   led_is_by used (busy at flow (response_body side how most)) = tt
   led_is_by used (busy at flow (coming_down side how)) = tt

@@ -16,13 +16,12 @@ use Rattle.px_exchange.specs.declared.ending.Used.TheVariants.{NoServer, ByServe
 use Rattle.px_exchange.specs.declared.mode.Mode.{Mode}
 use Rattle.px_exchange.specs.declared.place.Place.{Place}
 use Rattle.px_exchange.specs.declared.place.Place.TheVariants as places
-use Rattle.px_exchange.specs.Dials.{connected_owes}
 use Rattle.px_exchange.specs.Endings.{ends_by_fault, refuses, shut_all}
 use Rattle.px_exchange.specs.Places.{address_of, place_of, terms_of}
 use Rattle.px_exchange.specs.Texts.{connected_text}
 use Rattle.px_chain.specs.Chain.{Connect, begin, connect_in, http_chain, reached, sequence}
 use Rattle.px_chain.specs.Sights.{Sight, Standing, request_in, sight_over}
-use Rattle.px_chain.specs.Stages.{At, all_sent, busy, connection, idle, response_head, unparked, upgraded}
+use Rattle.px_chain.specs.Stages.{At, busy, connection, idle, response_head, unparked, upgraded}
 use Rattle.px_chain.specs.Stages as flows
 use Rattle.px_event.specs.Sides.{closes, piece_of}
 use Rattle.px_chain.specs.Streams.{Since, bytes_of, client_closed, from_here, is_closed, last_moment, now_over}
@@ -33,6 +32,7 @@ use Rattle.px_relay.specs.Sending.{Terms}
 use Rattle.px_relay.specs.Sights.{Sight as SocketSight}
 use Rattle.px_relay.specs.Stages.{Stage as Frames, relaying}
 use Rattle.px_stack.specs.Sockets.{is_websocket}
+use Rattle.px_stream.specs.Anywhere.{reached_owes}
 use Rattle.px_stack.specs.Stages.{Dialling, Ends as TunnelEnds, Goal, Link, Stage, Tunnel, Visitor, a_flow, a_tunnel, connecting, http, over, raw, reaching, socket, undecided}
 
 -- ---- where HTTP hands over
@@ -94,6 +94,7 @@ inner_standing tunnel link since = record {
   since = since;
   opened = link.opened;
   used = record { client = tunnel.used; server = link.used };
+  told = 0;
 }
 
 abbrev pub tunnel_ends : Tunnel → Link → TunnelEnds
@@ -144,10 +145,11 @@ way_to link used prefix = way_by (is_empty (text_behind link used prefix)) link 
 -- a flow that is connected so
 abbrev pub connected_on : Place → Dialling → Link → Since → Standing
 connected_on place from way since = record {
-  stage = busy (record from.at { dials = from.at.dials + 1 }) (reached place from.flow) (response_head way.server all_sent);
+  stage = busy (record from.at { dials = from.at.dials + 1 }) (reached place from.flow) (response_head way.server from.sent);
   since = since;
   opened = way.opened;
   used = record { client = from.used; server = way.used };
+  told = 0;
 }
 
 -- the proxy's side, and whether it closed
@@ -202,7 +204,7 @@ dialled_by tunnel = unwrap_or tunnel.proxy tunnel.address
 
 -- a flow whose server is dialled through another proxy; the side that was parked is closed by then
 abbrev pub led_by : ℕ → flows.Stage → Option Dialling
-led_by used (busy at flow connection) = Some (record { at = unparked at; used = used; flow = flow })
+led_by used (busy at flow (connection sent)) = Some (record { at = unparked at; used = used; flow = flow; sent = sent })
 led_by used stage = None
 
 abbrev pub led_at : Place → Standing → Option Dialling
@@ -237,24 +239,6 @@ module _ (conv : ℕ) (client : Visitor) where
   abbrev pub pass_http : Place → Standing → List (Timed Event) → Stage
   pass_http place standing prefix = or_stays (http place standing) (hands_over place standing prefix)
 
-  -- a proxy that let through, or refused
-  abbrev pub pass_reached : Goal → Link → Since → List (Timed Event) → Granting → Turn Stage Command
-  pass_reached goal link since prefix awaited = record { owed = []; stage = reaching goal link since }
-  pass_reached (a_tunnel tunnel) link since prefix (granted used) = record {
-    owed = commands.Send Client connected_text ∷ [];
-    stage = goes_by (client_closed prefix) tunnel (way_to link used prefix) (from_here (now_over since prefix) prefix) prefix;
-  }
-  pass_reached (a_flow place from) link since prefix (granted used) = record {
-    owed = connected_owes place from.flow link.server;
-    stage = http place (connected_on place from (way_to link used prefix) (from_here (now_over since prefix) prefix));
-  }
-  pass_reached (a_tunnel tunnel) link since prefix refused =
-      record { owed = refuses UpstreamRefused false (used_proxy link prefix) (closed_before link prefix); stage = over }
-  pass_reached (a_flow place from) link since prefix refused = record {
-    owed = ends_by_fault from.flow UpstreamRefused (now_over since prefix) (used_proxy link prefix) (closed_before link prefix);
-    stage = over;
-  }
-
   abbrev pub pass_socket : TunnelEnds → Flow → Frames → List (Timed Event) → Turn Stage Command
   pass_socket ends flow frames prefix = socket_turn ends flow (relay.pass (socket_terms client.key ends flow) frames (socket_sight ends prefix))
 
@@ -263,11 +247,36 @@ module _ (conv : ℕ) (client : Visitor) where
   begun (socket ends flow frames) prefix = pass_socket ends flow frames prefix
   begun stage prefix = record { owed = []; stage = stage }
 
-  abbrev pub pass : Stage → List (Timed Event) → Turn Stage Command
-  pass (http place standing) prefix =
+  -- HTTP passes on, and what follows it begins
+  abbrev pub pass_flows : Place → Standing → List (Timed Event) → Turn Stage Command
+  pass_flows place standing prefix =
       let on = (flows_at place).pass standing prefix in
       let to = begun (pass_http place on.stage prefix) prefix in
       record { owed = on.owed ++ to.owed; stage = to.stage }
+
+  -- this is owed before
+  abbrev pub owing : List Command → Turn Stage Command → Turn Stage Command
+  owing owed on = record { owed = owed ++ on.owed; stage = on.stage }
+
+  -- a proxy that let through, or refused
+  abbrev pub pass_reached : Goal → Link → Since → List (Timed Event) → Granting → Turn Stage Command
+  pass_reached goal link since prefix awaited = record { owed = []; stage = reaching goal link since }
+  pass_reached (a_tunnel tunnel) link since prefix (granted used) = record {
+    owed = commands.Send Client connected_text ∷ [];
+    stage = goes_by (client_closed prefix) tunnel (way_to link used prefix) (from_here (now_over since prefix) prefix) prefix;
+  }
+  pass_reached (a_flow place from) link since prefix (granted used) =
+      owing (reached_owes from.sent place from.flow link.server)
+      (pass_flows place (connected_on place from (way_to link used prefix) (from_here (now_over since prefix) prefix)) prefix)
+  pass_reached (a_tunnel tunnel) link since prefix refused =
+      record { owed = refuses UpstreamRefused false (used_proxy link prefix) (closed_before link prefix); stage = over }
+  pass_reached (a_flow place from) link since prefix refused = record {
+    owed = ends_by_fault from.flow UpstreamRefused (now_over since prefix) (used_proxy link prefix) (closed_before link prefix);
+    stage = over;
+  }
+
+  abbrev pub pass : Stage → List (Timed Event) → Turn Stage Command
+  pass (http place standing) prefix = pass_flows place standing prefix
   pass (socket ends flow frames) prefix = pass_socket ends flow frames prefix
   pass (reaching goal link since) prefix = pass_reached goal link since prefix (answer_of link prefix)
   pass (undecided tunnel link since) prefix = record { owed = []; stage = goes_by (client_closed prefix) tunnel link since prefix }

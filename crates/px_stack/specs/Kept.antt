@@ -9,7 +9,7 @@ use Rattle.px_relay.specs.declared.layer.WsLayer.{WsLayer}
 use Rattle.px_relay.specs.Chain.{most_whole}
 use Rattle.px_relay.specs.Kept.{left_in, ws_keeps}
 use Rattle.px_relay.specs.Stands as frames
-use Rattle.px_stream.specs.Tells.{sequence_left, stream_keeps}
+use Rattle.px_stream.specs.Tells.{keeps_no_body, sequence_left, stream_keeps}
 use Rattle.px_tunnel.specs.Reaching.{rest_of}
 use Rattle.px_stack.specs.declared.child.Child.{Child}
 use Rattle.px_stack.specs.declared.child.Child.TheVariants as children
@@ -69,3 +69,8 @@ kept_by (children.Http flows) = stream_keeps flows.value.stream
 kept_by (children.Reaching kept) = goal_keeps kept.goal + length (rest_of kept.asked)
 kept_by (children.Socket layer) = ws_keeps layer.value
 kept_by child = 0
+
+-- In HTTP nothing is awaited, and neither direction keeps a body.
+abbrev pub http_keeps_no_body : Child → Bool
+http_keeps_no_body (children.Http flows) = keeps_no_body flows.value.stream.phase
+http_keeps_no_body child = false

@@ -41,10 +41,10 @@ use Rattle.px_tunnel.specs.Laws.{both_append}
 use Rattle.px_tunnel.specs.Upstream.{Granting, awaited, granted, refused}
 use Rattle.px_relay.specs.Laws.{settles as frames_settle}
 use Rattle.px_relay.specs.Stages.{Stage as Frames}
-use Rattle.px_stack.specs.Chain.{answer_of, begun, connected_on, flows_at, follows, goes_by, hands_by, hands_over, has_answered, inner_place, inner_standing, is_shut, opening_text, or_stays, pass_http, pass_reached, pass_socket, proxy_at, raw_look, socket_sight, socket_terms, stack_chain, text_down, text_up, tunnel_for, tunnel_found, upgrades, way_to}
+use Rattle.px_stack.specs.Chain.{answer_of, begun, connected_on, flows_at, follows, goes_by, hands_by, hands_over, has_answered, inner_place, inner_standing, is_shut, opening_text, or_stays, pass_http, pass_reached, pass_socket, proxy_at, raw_look, socket_sight, socket_terms, stack_chain, text_down, text_up, tunnel_for, tunnel_found, upgrades, way_to, pass_flows}
 use Rattle.px_stack.specs.Decides.{Decision, decided, is_http, is_raw, still}
 use Rattle.px_stack.specs.Sockets.{is_websocket}
-use Rattle.px_stack.specs.Stages.{Dialling, Ends as TunnelEnds, Goal, Link, Stage, Tunnel, Visitor, a_flow, a_tunnel, connecting, http, over, raw, reaching, socket, undecided}
+use Rattle.px_stack.specs.Stages.{Ends as TunnelEnds, Goal, Link, Stage, Tunnel, Visitor, a_flow, a_tunnel, connecting, http, over, raw, reaching, socket, undecided}
 
 -- ---- at one address nothing is a CONNECT
 
@@ -87,7 +87,7 @@ upgrades_tunnel false flow moment ends = tt
 -- Where HTTP hands over, it owes nothing, and nothing more of it comes.
 pub record HandsOver (terms : Terms) (stage : flows.Stage) (seen : Sight) (to : Stage) : Type 0 where
   pub is_tunnel : IsTunnel to
-  pub owes : so_far_of stage seen ≡ []
+  pub owes : so_far_of terms stage seen ≡ []
   pub ends : look_of terms stage seen ≡ Ends []
 
 -- the judgement by which a CONNECT is found is the one that the look has
@@ -130,8 +130,8 @@ idle_hands terms used at seen to (Some connect) is hands =
 pub hands : (terms : Terms) (standing : Standing) (stage : flows.Stage) (seen : Sight) (to : Stage) → hands_by terms.place standing stage seen ≡ Some to →
     HandsOver terms stage seen to
 hands terms standing (idle at) seen to is = idle_hands terms standing.used.client at seen to (connect_in terms.place (request_in seen)) refl is
-hands terms standing (busy at flow (request_body given)) seen to is = absurd (let no : None ≡ Some to = is in cc)
-hands terms standing (busy at flow connection) seen to is = absurd (let no : None ≡ Some to = is in cc)
+hands terms standing (busy at flow (request_body given most)) seen to is = absurd (let no : None ≡ Some to = is in cc)
+hands terms standing (busy at flow (connection sent)) seen to is = absurd (let no : None ≡ Some to = is in cc)
 hands terms standing (busy at flow (response_head side how)) seen to is = absurd (let no : None ≡ Some to = is in cc)
 hands terms standing (busy at flow (response_body side how most)) seen to is = absurd (let no : None ≡ Some to = is in cc)
 hands terms standing (busy at flow (coming_down side how)) seen to is = absurd (let no : None ≡ Some to = is in cc)
@@ -201,10 +201,12 @@ module _ (conv : ℕ) (client : Visitor) where
   goes_settled tunnel link since prefix false is =
       decided_settled tunnel link since prefix (decided (opening_text tunnel prefix) (has_answered link prefix)) is refl
 
-  -- a flow that goes on where a proxy let it through
-  connected_settled : (place : Place) (from : Dialling) (way : Link) (since : Since) (prefix : List (Timed Event)) →
-      IsSettled (stack_chain conv client) (http place (connected_on place from way since)) prefix
-  connected_settled place from way since prefix = stays_settled place (connected_on place from way since) prefix (record { stays = refl; owes_nothing = refl }) refl
+  -- where HTTP has passed on
+  flows_settled : (place : Place) (standing : Standing) (prefix : List (Timed Event)) → IsSettled (stack_chain conv client) (pass_flows conv client place standing prefix).stage prefix
+  flows_settled place standing prefix =
+      let on = (flows_at conv client place).pass standing prefix in
+      let law = flows_settle sequence (is_sequence refl) (terms_of conv client.address place) in
+      http_settled place on.stage prefix (hands_over place on.stage prefix) (law.at standing prefix) refl
 
   reached_settled : (goal : Goal) (link : Link) (since : Since) (prefix : List (Timed Event)) (g : Granting) → answer_of link prefix ≡ g →
       IsSettled (stack_chain conv client) (pass_reached conv client goal link since prefix g).stage prefix
@@ -215,15 +217,12 @@ module _ (conv : ℕ) (client : Visitor) where
   reached_settled (a_tunnel tunnel) link since prefix (granted used) is =
       goes_settled tunnel (way_to link used prefix) (from_here (now_over since prefix) prefix) prefix (client_closed prefix) refl
   reached_settled (a_flow place from) link since prefix (granted used) is =
-      connected_settled place from (way_to link used prefix) (from_here (now_over since prefix) prefix) prefix
+      flows_settled place (connected_on place from (way_to link used prefix) (from_here (now_over since prefix) prefix)) prefix
   reached_settled (a_tunnel tunnel) link since prefix refused is = record { stays = refl; owes_nothing = refl }
   reached_settled (a_flow place from) link since prefix refused is = record { stays = refl; owes_nothing = refl }
 
   settled_at : (stage : Stage) (prefix : List (Timed Event)) → IsSettled (stack_chain conv client) ((stack_chain conv client).pass stage prefix).stage prefix
-  settled_at (http place standing) prefix =
-      let on = (flows_at conv client place).pass standing prefix in
-      let law = flows_settle sequence (is_sequence refl) (terms_of conv client.address place) in
-      http_settled place on.stage prefix (hands_over place on.stage prefix) (law.at standing prefix) refl
+  settled_at (http place standing) prefix = flows_settled place standing prefix
   settled_at (connecting tunnel) prefix = record { stays = refl; owes_nothing = refl }
   settled_at (reaching goal link since) prefix = reached_settled goal link since prefix (answer_of link prefix) refl
   settled_at (undecided tunnel link since) prefix = goes_settled tunnel link since prefix (client_closed prefix) refl

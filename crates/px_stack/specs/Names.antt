@@ -21,7 +21,7 @@ use Rattle.px_exchange.specs.Endings.{shut_all, shut_client, shut_server}
 use Rattle.px_exchange.specs.Places.{terms_of}
 use Rattle.px_chain.specs.Chain.{Connect, connect_in}
 use Rattle.px_chain.specs.Sights.{Sight, Standing, request_in, sight_over}
-use Rattle.px_chain.specs.Stages.{At, busy, coming_down, connection, given_body, given_head, idle, next, request_body, response_body, response_head, upgraded}
+use Rattle.px_chain.specs.Stages.{At, Sent, all_sent, busy, coming_down, connection, given_body, given_head, going_up, idle, next, request_body, response_body, response_head, upgraded}
 use Rattle.px_chain.specs.Stages as flows
 use Rattle.px_chain.specs.Streams.{Since, client_closed, from_here, now_over}
 use Rattle.px_chain.proofs.Quiet.{IsOf}
@@ -31,10 +31,11 @@ use Rattle.px_relay.specs.Chain as relay
 use Rattle.px_relay.specs.Sending.{Terms}
 use Rattle.px_relay.specs.Sights.{Sight as SocketSight}
 use Rattle.px_relay.specs.Stages.{Stage as Frames, holding, over as ended, relaying}
-use Rattle.px_stack.specs.Chain.{answer_of, begun, closed_before, closes_all, finished_flow, flows_at, follows, goes_by, hands_by, has_answered, is_shut, led_at, led_by, opening_text, or_stays, pass_http, pass_reached, pass_socket, socket_sight, socket_terms, stack_chain, tunnel_for, tunnel_found, turn_connected, turn_dial, turn_http, upgrades, used_proxy, way_to}
+use Rattle.px_stack.specs.Chain.{answer_of, begun, connected_on, closed_before, closes_all, finished_flow, flows_at, follows, goes_by, hands_by, has_answered, is_shut, led_at, led_by, opening_text, or_stays, pass_http, pass_reached, pass_socket, socket_sight, socket_terms, stack_chain, tunnel_for, tunnel_found, turn_connected, turn_dial, turn_http, upgrades, used_proxy, way_to, pass_flows}
 use Rattle.px_stack.specs.Decides.{Decision, decided, is_http, is_raw, still}
 use Rattle.px_stack.specs.Frames.{AreSaid, pass_says, turn_says}
 use Rattle.px_stack.specs.Sockets.{is_websocket}
+use Rattle.px_stream.specs.Anywhere.{reached_owes}
 use Rattle.px_stack.specs.Stages.{Dialling, Ends as TunnelEnds, Goal, Link, Stage, Tunnel, Visitor, a_flow, a_tunnel, connecting, http, over, raw, reaching, socket, undecided}
 
 -- the flow of a place is the conversation's, and so are the one that became a tunnel and the one for which a proxy is asked
@@ -110,8 +111,8 @@ module _ (conv : ℕ) where
     hands_is : (place : Place) (standing : Standing) (stage : flows.Stage) (seen : Sight) → IsOf (terms_of conv client.address place) (OfConversation conv) standing.stage →
         IsOf (terms_of conv client.address place) (OfConversation conv) stage → IsOfIt conv client (or_stays (http place standing) (hands_by place standing stage seen))
     hands_is place standing (idle at) seen is here = tunnel_is place standing standing.used.client at (connect_in place (request_in seen)) is
-    hands_is place standing (busy at flow (request_body given)) seen is here = is
-    hands_is place standing (busy at flow connection) seen is here = is
+    hands_is place standing (busy at flow (request_body given most)) seen is here = is
+    hands_is place standing (busy at flow (connection sent)) seen is here = is
     hands_is place standing (busy at flow (response_head side how)) seen is here = is
     hands_is place standing (busy at flow (response_body side how most)) seen is here = is
     hands_is place standing (busy at flow (coming_down side how)) seen is here = is
@@ -137,16 +138,6 @@ module _ (conv : ℕ) where
     its_flows : (place : Place) → StaysNamed conv (flows_at conv client place) (λ standing. IsOf (terms_of conv client.address place) (OfConversation conv) standing.stage)
     its_flows place = flows_stay (terms_of conv client.address place)
 
-    -- where a proxy has answered
-    reached_is : (goal : Goal) (link : Link) (since : Since) (prefix : List (Timed Event)) (g : Granting) → IsGoalOf conv goal →
-        IsNamedTurn (pass_reached conv client goal link since prefix g)
-    reached_is goal link since prefix awaited is = (tt, is)
-    reached_is (a_tunnel tunnel) link since prefix (granted used) is =
-        ((tt, tt), goes_is (client_closed prefix) tunnel (way_to link used prefix) (from_here (now_over since prefix) prefix) prefix)
-    reached_is (a_flow place from) link since prefix (granted used) is = ((tt, tt), is)
-    reached_is (a_tunnel tunnel) link since prefix refused is = ((tt, closes_named (used_proxy link prefix) (closed_before link prefix)), tt)
-    reached_is (a_flow place from) link since prefix refused is = ((tt, (is, closes_named (used_proxy link prefix) (closed_before link prefix))), tt)
-
     socket_is : (ends : TunnelEnds) (flow : Flow) (frames : Frames) (prefix : List (Timed Event)) → flow.id.conv ≡ conv →
         IsNamedTurn (pass_socket conv client ends flow frames prefix)
     socket_is ends flow frames prefix is =
@@ -163,13 +154,34 @@ module _ (conv : ℕ) where
     begun_is (socket ends flow frames) prefix is = socket_is ends flow frames prefix is
     begun_is over prefix is = (tt, tt)
 
-    passes : (stage : Stage) (prefix : List (Timed Event)) → IsOfIt conv client stage →
-        AllNamed conv ((stack_chain conv client).pass stage prefix).owed × IsOfIt conv client ((stack_chain conv client).pass stage prefix).stage
-    passes (http place standing) prefix is =
+    flows_pass : (place : Place) (standing : Standing) (prefix : List (Timed Event)) → IsOfIt conv client (http place standing) → IsNamedTurn (pass_flows conv client place standing prefix)
+    flows_pass place standing prefix is =
         let on = (flows_at conv client place).pass standing prefix in
         let named = (its_flows place).pass standing prefix is in
         let to = begun_is (pass_http conv client place on.stage prefix) prefix (hands_is place on.stage on.stage.stage (sight_over on.stage prefix) named.1 named.1) in
         (named_append conv on.owed (begun conv client (pass_http conv client place on.stage prefix) prefix).owed named.0 to.0, to.1)
+
+    -- what a server is owed that is reached
+    reached_named : (sent : Sent) (place : Place) (flow : Flow) (server : ℕ) → AllNamed conv (reached_owes sent place flow server)
+    reached_named all_sent place flow server = (tt, tt)
+    reached_named going_up place flow server = tt
+
+    -- where a proxy has answered
+    reached_is : (goal : Goal) (link : Link) (since : Since) (prefix : List (Timed Event)) (g : Granting) → IsGoalOf conv goal →
+        IsNamedTurn (pass_reached conv client goal link since prefix g)
+    reached_is goal link since prefix awaited is = (tt, is)
+    reached_is (a_tunnel tunnel) link since prefix (granted used) is =
+        ((tt, tt), goes_is (client_closed prefix) tunnel (way_to link used prefix) (from_here (now_over since prefix) prefix) prefix)
+    reached_is (a_flow place from) link since prefix (granted used) is =
+        let to : Standing = connected_on place from (way_to link used prefix) (from_here (now_over since prefix) prefix) in
+        let on = flows_pass place to prefix is in
+        (named_append conv (reached_owes from.sent place from.flow link.server) (pass_flows conv client place to prefix).owed (reached_named from.sent place from.flow link.server) on.0, on.1)
+    reached_is (a_tunnel tunnel) link since prefix refused is = ((tt, closes_named (used_proxy link prefix) (closed_before link prefix)), tt)
+    reached_is (a_flow place from) link since prefix refused is = ((tt, (is, closes_named (used_proxy link prefix) (closed_before link prefix))), tt)
+
+    passes : (stage : Stage) (prefix : List (Timed Event)) → IsOfIt conv client stage →
+        AllNamed conv ((stack_chain conv client).pass stage prefix).owed × IsOfIt conv client ((stack_chain conv client).pass stage prefix).stage
+    passes (http place standing) prefix is = flows_pass place standing prefix is
     passes (connecting tunnel) prefix is = (tt, tt)
     passes (reaching goal link since) prefix is = reached_is goal link since prefix (answer_of link prefix) is
     passes (undecided tunnel link since) prefix is = (tt, goes_is (client_closed prefix) tunnel link since prefix)
@@ -232,8 +244,8 @@ module _ (conv : ℕ) where
 
     led_is_by : (place : Place) (used : ℕ) (stage : flows.Stage) → IsOf (terms_of conv client.address place) (OfConversation conv) stage → IsLedOf (led_by used stage)
     led_is_by place used (idle at) is = tt
-    led_is_by place used (busy at flow (request_body given)) is = tt
-    led_is_by place used (busy at flow connection) is = is
+    led_is_by place used (busy at flow (request_body given most)) is = tt
+    led_is_by place used (busy at flow (connection sent)) is = is
     led_is_by place used (busy at flow (response_head side how)) is = tt
     led_is_by place used (busy at flow (response_body side how most)) is = tt
     led_is_by place used (busy at flow (coming_down side how)) is = tt

@@ -5,7 +5,7 @@ use Rattle.px_message.specs.declared.address.Address.{Address}
 use Rattle.px_message.specs.declared.flow.Flow.{Flow}
 use Rattle.px_exchange.specs.declared.place.Place.{Place}
 use Rattle.px_chain.specs.Sights.{Standing}
-use Rattle.px_chain.specs.Stages.{At}
+use Rattle.px_chain.specs.Stages.{At, Sent}
 use Rattle.px_chain.specs.Streams.{Since}
 use Rattle.px_relay.specs.Stages.{Stage as Frames}
 
@@ -36,11 +36,13 @@ pub record Ends : Type 0 where
   pub link : Link
   pub flow : Option Flow
 
--- A flow that stands where its server is dialled: where in its conversation, and how many of the client's bytes were used up to its end.
+-- A flow that stands where its server is dialled: where in its conversation, how many of the client's bytes were used up to its end, or before it where
+-- its request is streamed, and how that is sent.
 pub record Dialling : Type 0 where
   pub at : At
   pub used : ℕ
   pub flow : Flow
+  pub sent : Sent
 
 -- What a proxy is asked to let through: a tunnel of the client, or a flow whose requests go to this place.
 pub data Goal : Type 0 where

@@ -80,7 +80,7 @@ InTime standing prefix = OpensInTime (place_of standing.stage).parked standing.o
 pub record IsLedOn (conv : ℕ) (client : Visitor) (place : Place) (from : Dialling) (link : Link) (prefix : List (Timed Event)) (flows : HttpConv) : Type 0 where
   pub standing : Standing
   pub at : At
-  pub stage : standing.stage ≡ busy at from.flow connection
+  pub stage : standing.stage ≡ busy at from.flow (connection from.sent)
   pub from_is : from.at ≡ unparked at
   pub used_is : from.used ≡ standing.used.client
   pub there : IsInFlows conv client place flows standing prefix

@@ -17,7 +17,6 @@ use Rattle.px_event.specs.View.{View, seen_of}
 use Rattle.px_event.proofs.Steps.{Takes, Resumes}
 use Rattle.px_exchange.specs.declared.ending.Used.{Used}
 use Rattle.px_exchange.specs.declared.place.Place.{Place}
-use Rattle.px_exchange.specs.Dials.{connected_owes}
 use Rattle.px_exchange.specs.Endings.{ends_by_fault}
 use Rattle.px_exchange.specs.Texts.{connected_text}
 use Rattle.px_chain.specs.Sights.{Standing}
@@ -29,6 +28,7 @@ use Rattle.px_relay.specs.declared.layer.WsLayer.{WsLayer}
 use Rattle.px_relay.specs.Chain.{begins_at}
 use Rattle.px_relay.specs.Stages.{relaying}
 use Rattle.px_relay.specs.Stands.{is_over as has_ended_in}
+use Rattle.px_stream.specs.Anywhere.{reached_owes}
 use Rattle.px_stream.specs.Tells.{led_to, sequence_left}
 use Rattle.px_tunnel.specs.declared.tunnel.RawTunnel.{RawTunnel}
 use Rattle.px_tunnel.specs.declared.upstream.UpstreamTunnel.{UpstreamTunnel}
@@ -43,7 +43,7 @@ use Rattle.px_stack.specs.declared.child.Goal.TheVariants as goals
 use Rattle.px_stack.specs.declared.child.Opening.{Opening}
 use Rattle.px_stack.specs.declared.child.Relay.{Relay}
 use Rattle.px_stack.specs.declared.closing.Sides.{Sides}
-use Rattle.px_stack.specs.Chain.{answer_of, begun, closed_before, closed_of, connected_on, flows_at, inner_place, inner_standing, is_shut, pass_http, raw_look, stack_chain, text_behind, text_down, text_of, text_on, text_up, upgrades, way_to}
+use Rattle.px_stack.specs.Chain.{answer_of, begun, closed_before, closed_of, connected_on, flows_at, inner_place, inner_standing, is_shut, pass_http, raw_look, stack_chain, text_behind, text_down, text_of, text_on, text_up, upgrades, way_to, owing, pass_flows}
 use Rattle.px_stack.specs.Kept.{awaited_by, left_by, tunnel_left}
 use Rattle.px_stack.specs.Sockets.{is_websocket}
 use Rattle.px_stack.specs.Stages.{Dialling, Ends as TunnelEnds, Goal, Link, Stage, Tunnel, Visitor, a_flow, http, raw, reaching, socket, undecided}
@@ -235,9 +235,10 @@ pub record IsBehind (link : Link) (used : ℕ) (prefix : List (Timed Event)) (re
   pub within : used ≤ length (text_of link.server (drop link.opened prefix))
 
 -- the flow goes on
-abbrev pub flow_reached : Place → Dialling → Link → ℕ → Since → List (Timed Event) → Stage
-flow_reached place from link used since prefix =
-    http place (connected_on place from (way_to link used prefix) (from_here (now_over since prefix) prefix))
+abbrev pub flow_reached : ℕ → Visitor → Place → Dialling → Link → ℕ → Since → List (Timed Event) → Turn Stage Command
+flow_reached conv client place from link used since prefix =
+    owing conv client (reached_owes from.sent place from.flow link.server)
+    (pass_flows conv client place (connected_on place from (way_to link used prefix) (from_here (now_over since prefix) prefix)) prefix)
 
 pub record LeadsThere (conv : ℕ) (client : Visitor) (next : Child) (more owed : List Command) (stage : Stage) (prefix : List (Timed Event)) : Type 0 where
   pub there : IsChild conv client next stage prefix
@@ -246,7 +247,7 @@ pub record LeadsThere (conv : ℕ) (client : Visitor) (next : Child) (more owed 
 abbrev pub Leads : List ℕ → Box HttpConv → List ℕ → ℕ → Child → List Command → Type 0
 Leads key flows rest moment next more = (conv : ℕ) (client : Visitor) (place : Place) (from : Dialling) (link : Link) (since : Since) (prefix : List (Timed Event)) (used : ℕ) →
     client.key ≡ key → MayGoOn conv client (a_flow place from) link since prefix link.server (goals.Flow flows) moment → IsBehind link used prefix rest →
-    LeadsThere conv client next more (connected_owes place from.flow link.server) (flow_reached place from link used since prefix) prefix
+    LeadsThere conv client next more (flow_reached conv client place from link used since prefix).owed (flow_reached conv client place from link used since prefix).stage prefix
 
 -- and it may, somewhere
 pub record CanReach (flows : Box HttpConv) (rest : List ℕ) (moment : ℕ) : Type 0 where

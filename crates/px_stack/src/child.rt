@@ -1,6 +1,10 @@
 //! What a conversation keeps, by where it stands.
-ghost use Rattle.std.specs.Prelude.{◌≡◌, ◌+◌, ◌-◌, ◌^◌, length, min};
-ghost use Rattle.px_stack.specs.Kept.{awaited_by, goal_keeps, is_over, kept_by};
+ghost use Rattle.std.specs.Prelude.{◌≡◌, ◌≤◌, ◌+◌, ◌-◌, ◌^◌, ℕ, List, length, min, true};
+ghost use Rattle.px_event.specs.Chain.{Timed};
+ghost use Rattle.px_event.specs.declared.event.Event.{Event as Heard};
+ghost use Rattle.px_stack.specs.Kept.{awaited_by, goal_keeps, http_keeps_no_body, is_over, kept_by};
+ghost use Rattle.px_stack.specs.Stages.{Stage, Visitor};
+ghost use Rattle.px_stack.specs.Stands.{IsChild};
 ghost use Rattle.px_tunnel.specs.Reaching.{rest_of};
 
 use px_event::{Ask, Layer};
@@ -100,9 +104,10 @@ impl Child {
     }
 
     /// How many bytes it keeps, or 2^64 - 1 where that is more: what HTTP or a WebSocket does, and those of a proxy's head. The bytes behind a
-    /// CONNECT wait for what follows, and do not count.
+    /// CONNECT wait for what follows, and do not count. In HTTP, where nothing is awaited and neither direction keeps a body, they are at most 2 * (65,536 + 1,024).
     pub fn kept(&self) -> usize
-        ensures { result ≡ min (kept_by self.now) (2 ^ 64 - 1) }
+        ensures kept { result ≡ min (kept_by self.now) (2 ^ 64 - 1) }
+        ensures bound { (conv : ℕ) (client : Visitor) (stage : Stage) (prefix : List (Timed Heard)) → IsChild conv client self.now stage prefix → http_keeps_no_body self.now ≡ true → kept_by self.now ≤ 133120 }
     {
         match self {
             Child::Http(http) => http.kept(),

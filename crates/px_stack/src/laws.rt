@@ -43,6 +43,7 @@ pub fn first_bytes_decide()
 {}
 
 /// In mode `upstream:` a server that has not answered was sent one request at most: one for a tunnel, or one whose target is in absolute form.
+/// Where that one is streamed, it was sent what came of it.
 /// So no byte of a client goes to a proxy behind a CONNECT that it has not granted, and no request from inside a tunnel to a proxy that was
 /// asked for none. A server of which no byte has come has not answered.
 pub fn proxies_answer_first()

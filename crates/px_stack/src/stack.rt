@@ -1,13 +1,14 @@
 //! A conversation: HTTP, until a CONNECT or a response of code 101 hands over, and what follows.
-ghost use Rattle.std.specs.Prelude.{◌≡◌, ◌≤◌, ◌<◌, ◌+◌, ◌++◌, ℕ, Bool, List, [], Option, Some, None, IfOk, OnOk, false};
+ghost use Rattle.std.specs.Prelude.{◌≡◌, ◌≤◌, ◌<◌, ◌+◌, ◌-◌, ◌^◌, ◌++◌, ℕ, Bool, List, [], Option, Some, None, IfOk, OnOk, false, min, true};
 ghost use Rattle.rand_chacha.specs.ChaCha.{key_of};
-ghost use Rattle.px_event.specs.Layer.{AsksOnly, MayAnswer};
+ghost use Rattle.px_event.specs.Layer.{AsksOnly, MayAnswer, Move};
+ghost use Rattle.px_event.specs.declared.command.Command.{Command as GivenCommand};
 ghost use Rattle.px_chain.specs.Chain.{parked_of};
 ghost use Rattle.px_exchange.specs.Places.{place_of, terms_of};
 ghost use Rattle.px_exchange.specs.declared.ending.Used.TheVariants.{ByServer, NoServer};
 ghost use Rattle.px_http.specs.Stands.{HttpStands, awaits as http_awaits};
 ghost use Rattle.px_stack.specs.Chain.{begins, unless_closed};
-ghost use Rattle.px_stack.specs.Kept.{awaited_by, goal_left, left_by, opened_left};
+ghost use Rattle.px_stack.specs.Kept.{awaited_by, goal_left, http_keeps_no_body, kept_by, left_by, opened_left};
 ghost use Rattle.px_stack.specs.Stack.{StackStands, awaits, start_of, visitor_of};
 ghost use Rattle.px_stack.specs.Stands.{IsSomewhere};
 ghost use Rattle.px_stack.specs.Steps.{Adds, AsksFor, CanGoOn, CanReach, Decides, EndsRefused, GoesInside, IsFewDials, IsGoalSomewhere, IsPlain, Leads, LetsThrough, Relays, ResumesChild, TakesChild, Tells, TurnsAway};
@@ -741,7 +742,10 @@ impl Layer for Stack {
         self.child.waiting()
     }
 
-    fn kept(&self) -> usize {
+    fn kept(&self) -> usize
+        ensures kept { result ≡ min (kept_by self.now.child) (2 ^ 64 - 1) }
+        ensures bound { (made : Stack) (moves : List Move) (given : List GivenCommand) → StackStands made self.now moves given → http_keeps_no_body self.now.child ≡ true → kept_by self.now.child ≤ 133120 }
+    {
         self.child.kept()
     }
 

@@ -27,40 +27,44 @@ use Rattle.px_stream.specs.declared.link.Link.{Link}
 use Rattle.px_stream.specs.declared.phase.Wanted.{Wanted}
 use Rattle.px_stream.specs.declared.phase.Wanted.TheVariants as ready
 use Rattle.px_stream.specs.declared.stream.Stream.{Stream}
-use Rattle.px_stream.specs.Anywhere.{Begins, BeginsThere, GoesOnWith, IsCounted, IsFew, IsInSequence, IsNew, MayBegin, MayGoOn, Waits, doing_by, unheard}
+use Rattle.px_stream.specs.Anywhere.{ended_reader, Begins, BeginsThere, GoesOnWith, IsCounted, IsFew, IsInSequence, IsNew, MayBegin, MayGoOn, Waits, doing_by, unheard}
 use Rattle.px_stream.specs.Heard.{IsUnshut, feeds, side_with}
+use Rattle.px_stream.specs.GoingUp.{MayGoUp, MayTakeSide}
 use Rattle.px_stream.specs.Looks.{MayLook}
 use Rattle.px_stream.specs.Passes.{Advances, MayPass}
-use Rattle.px_stream.specs.Stands.{IsReady, PhaseAt, awaits, none_sent, parked_link, stage_of}
+use Rattle.px_stream.specs.Stands.{IsBehind, IsReady, Keeps, PhaseAt, SentOn, WaitsUp, awaits, going_in, none_sent, parked_link, sent_at, sent_on, stage_of}
 use Rattle.px_stream.specs.Tells.{left_by, sequence_left}
-use Rattle.px_stream.proofs.AdvanceLemmas.{AdvancedTo, advances_to}
-use Rattle.px_stream.proofs.CallLemmas.{at_walked, gives_walked, may_look, same_tail}
-use Rattle.px_stream.proofs.MoveLemmas.{ask_atoms, asks_by, asks_seen, at_most, pass_silent, quiet_seen}
-use Rattle.px_stream.proofs.TurnLemmas.{sent_none, reads_first}
+use Rattle.px_stream.proofs.QuietLemmas.{missing_quiet}
+use Rattle.px_stream.proofs.AdvanceLemmas.{AdvancedTo, advances_to, passed_to}
+use Rattle.px_stream.proofs.CallLemmas.{at_walked, gives_walked, may_go_up, may_look, may_take, same_tail}
+use Rattle.px_stream.proofs.FirstLemmas.{all_going, how_is}
+use Rattle.px_stream.proofs.MoveLemmas.{ask_atoms, asks_by, asks_seen, at_most, pass_few, pass_silent, quiet_seen}
+use Rattle.px_stream.proofs.TurnLemmas.{sent_none}
+use Rattle.px_stream.proofs.UnreadLemmas.{reads_first}
 
--- what is asked where it went on and looked is awaited, where nothing was sent on before
-pub looked_asks : (made : Terms) (after : Stream) (stage : Stage) (seen : Sight) (out longer : List Command) (got : AdvancedTo made after stage seen none_sent out longer) →
-    flat_map asks_in got.more ≡ option_to_list (awaits after)
-looked_asks made after stage seen out longer got =
-    let there : Stage = sequence (pass stage seen).stage in
-    let sees : Sight = sight_past stage seen in
-    let owed : List Command = (pass stage seen).owed in
+-- what is asked where it went on and looked is awaited, where what was sent on before asks nothing
+pub looked_asks : (made : Terms) (after : Stream) (stage : Stage) (seen : Sight) (sent : SentOn) (out longer : List Command) (got : AdvancedTo made after stage seen sent out longer) →
+    seen_of questions (sent_on stage sent) ≡ [] → flat_map asks_in got.more ≡ option_to_list (awaits after)
+looked_asks made after stage seen sent out longer got silent =
+    let there : Stage = passed_to made stage seen in
+    let sees : Sight = sight_past made stage seen in
+    let owed : List Command = (pass made stage seen).owed in
     let fw : List Command = found_with (behind there sees) (look made there sees) in
-    let rest : List Command = so_far there sees ++ fw in
+    let rest : List Command = so_far made there sees ++ fw in
     asks_seen got.more
     ∙ (ap (flat_map ask_atoms)
-    (ap (λ l. seen_of questions (l ++ got.more)) (sym (sent_none stage))
+    (ap (λ l. l ++ seen_of questions got.more) (sym silent)
+    ∙ (sym (seen_append questions (sent_on stage sent) got.more)
     ∙ (got.owes questions ∙ (seen_append questions owed rest ∙ (ap (λ l. l ++ seen_of questions rest) (pass_silent made stage seen)
-    ∙ (seen_append questions (so_far there sees) fw ∙ ap (λ l. l ++ seen_of questions fw) (quiet_seen (so_far there sees) (so_far_quiet any_flow there sees)))))))
+    ∙ (seen_append questions (so_far made there sees) fw ∙ ap (λ l. l ++ seen_of questions fw) (quiet_seen (so_far made there sees) (so_far_quiet any_flow made there sees))))))))
     ∙ asks_by (look made there sees) made after.at after.requests after.side after.phase there sees refl got.is_in.phase)
 
--- What is given where nothing was sent on before is what is owed there.
-pub gives_all : (made : Terms) (after : Stream) (place : Standing) (prefix : List (Timed Event)) (out longer more : List Command)
-    (got : AdvancedTo made after place.stage (sight_over place prefix) none_sent out longer) → got.more ≡ more → (view : View) →
+-- What was sent on before and what is given are what is owed there.
+pub gives_all : (made : Terms) (after : Stream) (place : Standing) (prefix : List (Timed Event)) (sent : SentOn) (out longer more : List Command)
+    (got : AdvancedTo made after place.stage (sight_over place prefix) sent out longer) → sent_on place.stage sent ++ got.more ≡ more → (view : View) →
     seen_of view more ≡ seen_of view (owed_over (http_chain sequence made) place prefix)
-gives_all made after place prefix out longer more got same view =
-    gives_walked made place prefix (sight_over place prefix) refl view [] more
-    (ap (seen_of view) (sym same ∙ ap (λ l. l ++ got.more) (sym (sent_none place.stage))) ∙ got.owes view)
+gives_all made after place prefix sent out longer more got same view =
+    gives_walked made place prefix (sight_over place prefix) refl view [] more (ap (seen_of view) (sym same) ∙ got.owes view)
 
 -- ---- where it goes on without an answer only behind a look
 
@@ -71,11 +75,11 @@ PassesNone stage = ⊤
 
 pub none_passes : (at : At) (looked : Wanted) (side : Option Link) → PassesNone (stage_of at looked) → MayPass at looked side
 none_passes at ready.Idle side none = tt
-none_passes at (ready.RequestBody flow given body) side none = tt
-none_passes at (ready.Connection flow) side none = tt
-none_passes at (ready.ResponseHead flow server) side none = tt
-none_passes at (ready.ResponseBody flow server most body held) side none = absurd none
-none_passes at (ready.ComingDown flow server sent) side none = absurd none
+none_passes at (ready.RequestBody flow given most body held) side none = tt
+none_passes at (ready.Connection flow up) side none = tt
+none_passes at (ready.ResponseHead flow server up) side none = tt
+none_passes at (ready.ResponseBody flow server up most body held) side none = absurd none
+none_passes at (ready.ComingDown flow server up sent) side none = absurd none
 none_passes at (ready.Upgraded flow server) side none = tt
 none_passes at (ready.GivenHead flow) side none = tt
 none_passes at (ready.GivenBody flow) side none = tt
@@ -85,7 +89,7 @@ none_passes at ready.Over side none = tt
 -- ---- a new stream
 
 unheard_is : (parked : Option Parked) →
-    unheard parked ≡ parked_link parked (sight_of (side_parked parked) (record { events = 0; moment = 0 }) 0 (record { client = 0; server = 0 }) [])
+    unheard parked ≡ parked_link parked (sight_of (side_parked parked) (record { events = 0; moment = 0 }) 0 (record { client = 0; server = 0 }) 0 [])
 unheard_is None = refl
 unheard_is (Some parked) = refl
 
@@ -114,7 +118,7 @@ stands_first state is_new few ahead dials small =
           terms = refl;
           place = record { is_here = refl; client = is_new.client };
           phase = subst (λ l. PhaseAt l state.terms state.at state.requests state.side state.phase (idle state.at) nothing) (sym (waits_first_look state is_new))
-              (ready.Idle, none_sent, is_new.phase, record { is_stage = refl; request = reads; has_side = is_new.side ∙ unheard_is state.at.parked }, refl);
+              (ready.Idle, none_sent, is_new.phase, record { is_stage = refl; request = reads; has_side = is_new.side ∙ unheard_is state.at.parked }, λ view. refl, missing_quiet [] state.requests reads refl);
         };
       };
       few = record { few = few; dials = dials };
@@ -128,7 +132,7 @@ waits_there : (parked : Option Parked) (seen : Sight) (waiting : List ℕ) → W
 waits_there None seen waiting is = refl
 waits_there (Some parked) seen waiting (come, unshut) = rw (come, unshut) refl
 
-waits_first : (parked : Option Parked) (rest waiting : List ℕ) (closed : Bool) (moment : ℕ) → Waits parked (record { client = rest; closed = closed; server = waiting; shut = false; now = moment }) waiting
+waits_first : (parked : Option Parked) (rest waiting : List ℕ) (closed : Bool) (moment : ℕ) → Waits parked (record { client = rest; closed = closed; server = waiting; shut = false; told = 0; now = moment }) waiting
 waits_first None rest waiting closed moment = tt
 waits_first (Some parked) rest waiting closed moment = (refl, refl)
 
@@ -147,8 +151,8 @@ module _ (before mid after : Stream) (moment : ℕ) (closed : Bool) (rest waitin
       advances_to made mid after moment ready.Idle out longer (idle before.at) seen none_sent (terms ∙ is) now
       (record { is_stage = ap idle at; request = reads; has_side = side }) (record { is_here = at; client = client ∙ sym shut }) once
 
-  abbrev canonical : AdvancedTo before.terms after (idle before.at) (record { client = rest; closed = closed; server = waiting; shut = false; now = moment }) none_sent out longer
-  canonical = begun_in before.terms (record { client = rest; closed = closed; server = waiting; shut = false; now = moment }) refl refl refl (waits_first before.at.parked rest waiting closed moment) refl
+  abbrev canonical : AdvancedTo before.terms after (idle before.at) (record { client = rest; closed = closed; server = waiting; shut = false; told = 0; now = moment }) none_sent out longer
+  canonical = begun_in before.terms (record { client = rest; closed = closed; server = waiting; shut = false; told = 0; now = moment }) refl refl refl (waits_first before.at.parked rest waiting closed moment) refl
 
   begins_by : (made : Terms) (ahead : ℕ) (place : Standing) (prefix : List (Timed Event)) → MayBegin made ahead before moment closed rest waiting place prefix → BeginsThere made ahead after canonical.more place prefix
   begins_by made ahead place prefix may =
@@ -158,17 +162,17 @@ module _ (before mid after : Stream) (moment : ℕ) (closed : Bool) (rest waitin
       record {
         is_there = record {
           is_at = at_walked made place prefix seen refl after may.within got.is_in;
-          few = subst (λ s. IsFew ahead (sequence (pass s seen).stage)) (sym may.stage) may.few;
+          few = subst (λ s. IsFew ahead (sequence (pass made s seen).stage)) (sym may.stage) may.few;
           small = may.small;
         };
-        gives = gives_all made after place prefix out longer canonical.more got same;
+        gives = gives_all made after place prefix none_sent out longer canonical.more got (ap (λ l. l ++ got.more) (sent_none place.stage) ∙ same);
       }
 
   pub begins_with : Begins before after moment closed rest waiting out longer
   begins_with = record { more = canonical.more; grown = canonical.grown; begins = begins_by }
 
   pub begin_asks : AsksOnly (awaits after) out longer
-  begin_asks = (canonical.more, canonical.grown, looked_asks before.terms after (idle before.at) _ out longer canonical)
+  begin_asks = (canonical.more, canonical.grown, looked_asks before.terms after (idle before.at) _ none_sent out longer canonical refl)
 
   pub begin_left : sequence_left after ≤ sequence_left before
   begin_left =
@@ -178,30 +182,50 @@ module _ (before mid after : Stream) (moment : ℕ) (closed : Bool) (rest waitin
 
 -- ---- with a flow whose request others have read
 
-few_there : (given : Option Response) (ahead : ℕ) (at : At) (flow : Flow) (seen : Sight) → IsCounted ahead at → IsFew ahead (sequence (pass (busy at flow (doing_by given)) seen).stage)
-few_there None ahead at flow seen few = few
-few_there (Some response) ahead at flow seen few = let f = few.few in let d = few.dials in record { few = f; dials = omega arith }
+few_for : (given : Option Response) (ahead : ℕ) (at : At) (flow : Flow) → IsCounted ahead at → IsFew ahead (busy at flow (doing_by given))
+few_for None ahead at flow few = few
+few_for (Some response) ahead at flow few = let f = few.few in let d = few.dials in record { few = f; dials = omega arith }
+
+few_there : (terms : Terms) (given : Option Response) (ahead : ℕ) (at : At) (flow : Flow) (seen : Sight) → IsCounted ahead at → IsFew ahead (sequence (pass terms (busy at flow (doing_by given)) seen).stage)
+few_there terms given ahead at flow seen few = pass_few ahead terms (busy at flow (doing_by given)) seen (few_for given ahead at flow few)
 
 still_there : (given : Option Response) (at : At) (flow : Flow) → PassesNone (busy at flow (doing_by given))
 still_there None at flow = tt
 still_there (Some response) at flow = tt
 
-left_there : (given : Option Response) (at : At) (flow : Flow) (seen : Sight) → stages_left (sequence (pass (busy at flow (doing_by given)) seen).stage) ≤ behind_left at.flow + 5
-left_there None at flow seen = omega arith
-left_there (Some response) at flow seen = omega arith
+left_there : (terms : Terms) (given : Option Response) (at : At) (flow : Flow) (seen : Sight) → stages_left (sequence (pass terms (busy at flow (doing_by given)) seen).stage) ≤ behind_left at.flow + 5
+left_there terms None at flow seen = omega arith
+left_there terms (Some response) at flow seen = omega arith
 
-unheard_there : (parked : Option Parked) (moment : ℕ) → unheard parked ≡ parked_link parked (record { client = []; closed = false; server = []; shut = false; now = moment })
+unheard_there : (parked : Option Parked) (moment : ℕ) → unheard parked ≡ parked_link parked (record { client = []; closed = false; server = []; shut = false; told = 0; now = moment })
 unheard_there None moment = refl
 unheard_there (Some parked) moment = refl
 
-ready_there : (given : Option Response) (at : At) (flow : Flow) (seen : Sight) (requests : State) (side : Option Link) (looked : Wanted) → stage_of at looked ≡ busy at flow (doing_by given) →
-    seen.client ≡ [] → requests ≡ before_all request [] false → side ≡ parked_link at.parked seen → IsReady at requests side looked (busy at flow (doing_by given)) seen none_sent
-ready_there None at flow seen requests side looked is come new parked =
-    record { is_stage = is; request = record { rest = ap (λ (s : State). s.rest) new ∙ sym come; open_still = ap (λ (s : State). s.closed) new }; has_side = parked }
-ready_there (Some response) at flow seen requests side looked is come new parked =
-    record { is_stage = is; request = record { rest = ap (λ (s : State). s.rest) new ∙ sym come; open_still = ap (λ (s : State). s.closed) new }; has_side = parked }
+-- the reader stands behind that request
+keeps_none : (bytes : List ℕ) (requests : State) → bytes ≡ [] → requests ≡ ended_reader → Keeps bytes requests
+keeps_none bytes requests come new = record {
+  rest = ap (λ (s : State). s.rest) new ∙ sym come;
+  open_still = ap (λ (s : State). s.closed) new;
+  behind = subst (λ (s : State). IsBehind s.place) (sym new) (omega arith);
+}
 
-module _ (before : Stream) (moment : ℕ) (flow : Flow) (is_new : IsNew before) (looked : Wanted) (is : stage_of before.at looked ≡ busy before.at flow (doing_by flow.response)) where
+ready_there : (terms : Terms) (given : Option Response) (at : At) (flow : Flow) (seen : Sight) (requests : State) (side : Option Link) (looked : Wanted) → stage_of at looked ≡ busy at flow (doing_by given) →
+    seen.client ≡ [] → requests ≡ ended_reader → side ≡ parked_link at.parked seen → IsReady terms at requests side looked (busy at flow (doing_by given)) seen none_sent
+ready_there terms None at flow seen requests side looked is come new parked =
+    let none : going_in looked ≡ None = all_going looked (sym (how_is at looked) ∙ ap sent_at is) in
+    record {
+      is_stage = is;
+      request = subst (λ o. WaitsUp terms flow seen o requests) (sym none) (keeps_none seen.client requests come new);
+      has_side = parked;
+    }
+ready_there terms (Some response) at flow seen requests side looked is come new parked =
+    record { is_stage = is; request = keeps_none seen.client requests come new; has_side = parked }
+
+-- the reader of the client stands behind that request
+module _ (before : Stream) (moment : ℕ) (flow : Flow) (requests : State) (behind : requests ≡ ended_reader) (is_new : IsNew before) (looked : Wanted) (is : stage_of before.at looked ≡ busy before.at flow (doing_by flow.response)) where
+  abbrev mid : Stream
+  mid = record before { requests = requests }
+
   abbrev goes : Stage
   goes = busy before.at flow (doing_by flow.response)
 
@@ -209,22 +233,32 @@ module _ (before : Stream) (moment : ℕ) (flow : Flow) (is_new : IsNew before) 
   pub goes_on_passes : MayPass before.at looked before.side
   goes_on_passes = none_passes before.at looked before.side (subst PassesNone (sym is) (still_there flow.response before.at flow))
 
-  -- and look
-  pub goes_on_looks : MayLook looked before.requests before.side
-  goes_on_looks =
-      let seen : Sight = record { client = []; closed = false; server = []; shut = false; now = moment } in
-      may_look before.at before.requests before.side looked goes seen none_sent
-      (ready_there flow.response before.at flow seen before.requests before.side looked is refl is_new.requests (is_new.side ∙ unheard_there before.at.parked moment))
+  -- in a sight of nothing
+  abbrev sees : Sight
+  sees = record { client = []; closed = false; server = []; shut = false; told = 0; now = moment }
 
-  module _ (after : Stream) (out longer : List Command) (once : Advances before after moment looked out longer) where
+  ready_first : IsReady before.terms before.at requests before.side looked goes sees none_sent
+  ready_first = ready_there before.terms flow.response before.at flow sees requests before.side looked is refl behind (is_new.side ∙ unheard_there before.at.parked moment)
+
+  pub goes_on_up : MayGoUp looked requests
+  goes_on_up = may_go_up before.terms before.at requests before.side looked goes sees none_sent ready_first
+
+  pub goes_on_takes : MayTakeSide before.at looked before.side
+  goes_on_takes = may_take before.terms before.at requests before.side looked goes sees none_sent ready_first
+
+  -- and look
+  pub goes_on_looks : MayLook looked requests before.side
+  goes_on_looks = may_look before.terms before.at requests before.side looked goes sees none_sent ready_first
+
+  module _ (after : Stream) (out longer : List Command) (once : Advances mid after moment looked out longer) where
     goes_in : (made : Terms) (seen : Sight) → before.terms ≡ made → seen.client ≡ [] → seen.closed ≡ false → before.side ≡ parked_link before.at.parked seen → moment ≡ seen.now →
         AdvancedTo made after goes seen none_sent out longer
     goes_in made seen terms come shut parked now =
-        advances_to made before after moment looked out longer goes seen none_sent terms now (ready_there flow.response before.at flow seen before.requests before.side looked is come is_new.requests parked)
+        advances_to made mid after moment looked out longer goes seen none_sent terms now (ready_there made flow.response before.at flow seen requests before.side looked is come behind parked)
         (record { is_here = refl; client = is_new.client ∙ sym shut }) once
 
-    abbrev going : AdvancedTo before.terms after goes (record { client = []; closed = false; server = []; shut = false; now = moment }) none_sent out longer
-    going = goes_in before.terms (record { client = []; closed = false; server = []; shut = false; now = moment }) refl refl refl (is_new.side ∙ unheard_there before.at.parked moment) refl
+    abbrev going : AdvancedTo before.terms after goes (record { client = []; closed = false; server = []; shut = false; told = 0; now = moment }) none_sent out longer
+    going = goes_in before.terms (record { client = []; closed = false; server = []; shut = false; told = 0; now = moment }) refl refl refl (is_new.side ∙ unheard_there before.at.parked moment) refl
 
     goes_by : (made : Terms) (ahead : ℕ) (place : Standing) (prefix : List (Timed Event)) → MayGoOn made ahead before moment flow place prefix → BeginsThere made ahead after going.more place prefix
     goes_by made ahead place prefix may =
@@ -234,21 +268,21 @@ module _ (before : Stream) (moment : ℕ) (flow : Flow) (is_new : IsNew before) 
         record {
           is_there = record {
             is_at = at_walked made place prefix seen refl after may.within got.is_in;
-            few = subst (λ s. IsFew ahead (sequence (pass s seen).stage)) (sym may.stage) (few_there flow.response ahead before.at flow seen may.few);
+            few = subst (λ s. IsFew ahead (sequence (pass made s seen).stage)) (sym may.stage) (few_there made flow.response ahead before.at flow seen may.few);
             small = may.small;
           };
-          gives = gives_all made after place prefix out longer going.more got same;
+          gives = gives_all made after place prefix none_sent out longer going.more got (ap (λ l. l ++ got.more) (sent_none place.stage) ∙ same);
         }
 
     pub goes_on_with : GoesOnWith before after moment flow out longer
     goes_on_with = record { more = going.more; grown = going.grown; goes_on = goes_by }
 
     pub goes_on_asks : AsksOnly (awaits after) out longer
-    goes_on_asks = (going.more, going.grown, looked_asks before.terms after goes _ out longer going)
+    goes_on_asks = (going.more, going.grown, looked_asks before.terms after goes _ none_sent out longer going (ap (seen_of questions) (sent_none goes)))
 
     pub goes_on_left : sequence_left after ≤ sequence_left before
     goes_on_left =
         let most = at_most before.terms after _ _ going.is_in in
-        let there = left_there flow.response before.at flow (record { client = []; closed = false; server = []; shut = false; now = moment }) in
+        let there = left_there before.terms flow.response before.at flow (record { client = []; closed = false; server = []; shut = false; told = 0; now = moment }) in
         let first : sequence_left before ≡ stages_left (idle before.at) = ap (left_by before.at) is_new.phase in
         omega arith

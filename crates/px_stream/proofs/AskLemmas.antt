@@ -1,6 +1,7 @@
 -- What is asked about at a stage: whether it is a dial, how many answers are left there, and the ask that the stage finds.
 use Rattle.std.proofs.Common.{◌≡◌, ℕ, Bool, true, false, List, [], ◌∷◌, Option, Some, None, refl, ap, sym, ◌∙◌, subst}
 use Rattle.std.specs.Prelude.{not, if◌then◌else◌, ⊤}
+use Rattle.px_message.specs.declared.fault.Fault.{Fault}
 use Rattle.px_message.specs.declared.flow.Flow.{Flow}
 use Rattle.px_event.specs.declared.command.Command.{Command}
 use Rattle.px_event.specs.Chain.{Look, NotYet, Asks, Ends}
@@ -15,13 +16,15 @@ use Rattle.px_exchange.specs.declared.ending.Used.{Used}
 use Rattle.px_exchange.specs.declared.terms.Terms.{Terms}
 use Rattle.px_exchange.specs.Finds.{is_relayed, look_answer, look_body, look_head, look_judged, look_returned, or_leaves}
 use Rattle.px_exchange.specs.Requests.{judged}
-use Rattle.px_chain.specs.Chain.{find, leaving, look}
+use Rattle.px_chain.specs.Chain.{bad_or, find, leaving, look, look_up}
 use Rattle.px_chain.specs.Left.{stage_left}
-use Rattle.px_chain.specs.Sights.{Sight, answers_in, dials_at, request_in, server_in, server_parked}
-use Rattle.px_chain.specs.Stages.{At, Stage, busy, coming_down, connection, given_body, given_head, idle, next, over, place_of, request_body, response_body, response_head, upgraded}
+use Rattle.px_chain.specs.Behind.{dials_at}
+use Rattle.px_chain.specs.Sights.{Sight, answers_in, request_in, server_in, server_parked}
+use Rattle.px_chain.specs.Stages.{At, Sent, Stage, all_sent, busy, coming_down, connection, given_body, given_head, going_up, idle, next, over, place_of, request_body, response_body, response_head, upgraded}
 use Rattle.px_stream.specs.declared.phase.Asked.{Asked}
+use Rattle.px_stream.specs.declared.phase.Asked.TheVariants as asked
 use Rattle.px_stream.specs.declared.phase.Phase.TheVariants as phase
-use Rattle.px_stream.specs.Stands.{answer_asked, asked_in, asked_of, body_asked, head_asked, judged_asked, returned_asked}
+use Rattle.px_stream.specs.Stands.{answer_asked, asked_in, asked_of, bare, body_asked, head_asked, judged_asked, returned_asked}
 use Rattle.px_stream.specs.Tells.{asked_left, uses_side}
 use Rattle.px_stream.specs.Turns.{is_dial, used_at}
 
@@ -94,12 +97,28 @@ module _ (at : At) (seen : Sight) where
   returned_facts flow server (bad_head fault) = tt
   returned_facts flow server (bad_body fault head body) = tt
 
+-- a fault of a request that goes up is no ask
+bad_facts : (item : Item ReadRequest) (ends : Fault → List Command) (l : Look Command) (found : Asked) → AsksOf l found → AsksOf (bad_or item ends l) found
+bad_facts missing ends l found is = is
+bad_facts (part head body) ends l found is = is
+bad_facts (complete head body trailers size) ends l found is = is
+bad_facts (bad_head fault) ends l found is = is
+bad_facts (bad_body fault head body) ends l found is = tt
+
+up_facts : (at : At) (seen : Sight) (dials : Bool) (count : ℕ) (uses : Bool) (those : Used) (sent : Sent) (ends : Fault → List Command) (l : Look Command) (found : Option Asked) →
+    Facts at seen dials count uses those l found → Facts at seen dials count uses those (look_up sent seen ends l) found
+up_facts at seen dials count uses those sent ends l None is = tt
+up_facts at seen dials count uses those all_sent ends l (Some found) is = is
+up_facts at seen dials count uses those going_up ends l (Some found) is = (is.0, is.1, is.2, is.3, bad_facts (request_in seen) ends l found is.4)
+
 facts_in : (terms : Terms) (stage : Stage) (seen : Sight) → Facts (place_of stage) seen (dials_at stage) (stage_left stage) (uses_of stage) (used_of stage seen) (find terms stage seen) (asked_in terms stage seen)
 facts_in terms (idle at) seen = head_facts at seen terms (request_in seen)
-facts_in terms (busy at flow (request_body given)) seen = body_facts at seen flow (request_in seen)
-facts_in terms (busy at flow connection) seen = (refl, refl, refl, refl, refl)
-facts_in terms (busy at flow (response_head server how)) seen = answer_facts at seen flow server (answers_in flow.request seen).final
-facts_in terms (busy at flow (response_body server how most)) seen = returned_facts at seen flow server (answers_in flow.request seen).final
+facts_in terms (busy at flow (request_body given most)) seen = body_facts at seen flow (request_in seen)
+facts_in terms (busy at flow (connection sent)) seen = (refl, refl, refl, refl, refl)
+facts_in terms (busy at flow (response_head server how)) seen =
+    up_facts at seen false 2 true (server_in server seen) how _ _ _ (answer_facts at seen flow server (answers_in flow.request seen).final)
+facts_in terms (busy at flow (response_body server how most)) seen =
+    up_facts at seen false 1 true (server_in server seen) how _ _ _ (returned_facts at seen flow server (answers_in flow.request seen).final)
 facts_in terms (busy at flow (coming_down server how)) seen = tt
 facts_in terms (busy at flow (upgraded server)) seen = tt
 facts_in terms (busy at flow given_head) seen = (refl, refl, refl, refl, refl)
@@ -107,9 +126,28 @@ facts_in terms (busy at flow given_body) seen = (refl, refl, refl, refl, refl)
 facts_in terms (next at) seen = tt
 facts_in terms over seen = tt
 
-module _ (terms : Terms) (stage : Stage) (seen : Sight) (found : Asked) (is : asked_in terms stage seen ≡ Some found) where
+-- how a request stands meanwhile changes nothing of these
+asks_bare : (l : Look Command) (found other : Asked) → asked_of other ≡ asked_of found → AsksOf l other → AsksOf l found
+asks_bare NotYet found other same is = tt
+asks_bare (Asks ask) found other same is = is ∙ ap (λ a. a ∷ []) same
+asks_bare (Ends owed) found other same is = tt
+
+bare_facts : (at : At) (seen : Sight) (dials : Bool) (count : ℕ) (uses : Bool) (those : Used) (l : Look Command) (found : Asked) →
+    Facts at seen dials count uses those l (Some (bare found)) → Facts at seen dials count uses those l (Some found)
+bare_facts at seen dials count uses those l (asked.Idle flow expects) is = is
+bare_facts at seen dials count uses those l (asked.RequestBody flow) is = is
+bare_facts at seen dials count uses those l (asked.Connection flow server up) is =
+    (is.0, is.1, is.2, is.3, asks_bare l (asked.Connection flow server up) (bare (asked.Connection flow server up)) refl is.4)
+bare_facts at seen dials count uses those l (asked.ResponseHead flow server up) is =
+    (is.0, is.1, is.2, is.3, asks_bare l (asked.ResponseHead flow server up) (bare (asked.ResponseHead flow server up)) refl is.4)
+bare_facts at seen dials count uses those l (asked.ResponseBody flow server up) is =
+    (is.0, is.1, is.2, is.3, asks_bare l (asked.ResponseBody flow server up) (bare (asked.ResponseBody flow server up)) refl is.4)
+bare_facts at seen dials count uses those l (asked.GivenHead flow) is = is
+bare_facts at seen dials count uses those l (asked.GivenBody flow) is = is
+
+module _ (terms : Terms) (stage : Stage) (seen : Sight) (found : Asked) (is : asked_in terms stage seen ≡ Some (bare found)) where
   facts : Facts (place_of stage) seen (dials_at stage) (stage_left stage) (uses_of stage) (used_of stage seen) (find terms stage seen) (Some found)
-  facts = subst (Facts (place_of stage) seen (dials_at stage) (stage_left stage) (uses_of stage) (used_of stage seen) (find terms stage seen)) is (facts_in terms stage seen)
+  facts = bare_facts (place_of stage) seen (dials_at stage) (stage_left stage) (uses_of stage) (used_of stage seen) (find terms stage seen) found (subst (Facts (place_of stage) seen (dials_at stage) (stage_left stage) (uses_of stage) (used_of stage seen) (find terms stage seen)) is (facts_in terms stage seen))
 
   -- it is a dial where a connection is awaited
   pub dial_asked : is_dial found ≡ dials_at stage

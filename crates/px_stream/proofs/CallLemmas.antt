@@ -1,6 +1,5 @@
 -- The calls of a stream, wherever it stands: what it does is what the chain does there.
-use Rattle.std.proofs.Common.{◌≡◌, ℕ, ◌<◌, ◌≤◌, Bool, true, false, List, [], ◌∷◌, ◌++◌, Option, Some, None, Result, Ok, Err, refl, ap, sym, ◌∙◌, subst, append_assoc, arith}
-use Rattle.std.specs.Prelude.{IfOk, OnOk}
+use Rattle.std.proofs.Common.{◌≡◌, ℕ, ◌<◌, ◌≤◌, Bool, true, false, List, [], ◌∷◌, ◌++◌, Option, Some, None, refl, ap, sym, ◌∙◌, subst, append_assoc, arith}
 use Rattle.std.proofs.lemmas.List.{append-nil}
 use Rattle.px_event.specs.declared.ask.Ask.{Ask}
 use Rattle.px_event.specs.declared.command.Command.{Command}
@@ -18,37 +17,42 @@ use Rattle.px_message.specs.declared.response.Response.{Response}
 use Rattle.px_read.specs.Marks.{Mark, asks, answers}
 use Rattle.px_read.specs.Reader.{State, request, response}
 use Rattle.px_read.specs.declared.head.ResponseHead.{ResponseHead as ReadResponse}
-use Rattle.px_exchange.specs.declared.ending.Used.{Used}
 use Rattle.px_exchange.specs.declared.terms.Terms.{Terms}
 use Rattle.px_exchange.specs.Requests.{is_head}
 use Rattle.px_chain.specs.Chain.{http_chain, is_sequence, look, pass, passed, sequence, sight_past, so_far, stands, turn}
-use Rattle.px_chain.specs.Sights.{IsWithin, Sight, Standing, server_in, server_parked, sight_behind, sight_over, sight_with}
+use Rattle.px_chain.specs.Behind.{sight_behind}
+use Rattle.px_chain.specs.Sights.{IsWithin, Sight, Standing, server_in, server_parked, sight_over, sight_with}
 use Rattle.px_chain.specs.Stages.{At, Parked, Stage, busy, coming_down, connection, given_body, given_head, idle, next, over, place_of, request_body, response_body, response_head, side_of, upgraded}
 use Rattle.px_chain.proofs.ChainLaws.{open_still}
 use Rattle.px_chain.proofs.SightLaws.{onward_from, sight_more, sight_passed, sight_turned, within_more, within_passed, within_stood}
 use Rattle.px_exchange.specs.Bodies.{IsReading}
 use Rattle.px_stream.specs.declared.coming.Held.{Held}
+use Rattle.px_stream.specs.declared.going.Going.{Going}
+use Rattle.px_stream.specs.declared.going.Sending.{Sending}
+use Rattle.px_stream.specs.declared.going.Sending.TheVariants as sending
 use Rattle.px_stream.specs.declared.link.Link.{Link}
 use Rattle.px_stream.specs.declared.phase.Asked.{Asked}
+use Rattle.px_stream.specs.declared.phase.Asked.TheVariants as asked
 use Rattle.px_stream.specs.declared.phase.Phase.{Phase}
 use Rattle.px_stream.specs.declared.phase.Phase.TheVariants as phase
 use Rattle.px_stream.specs.declared.phase.Wanted.{Wanted}
 use Rattle.px_stream.specs.declared.phase.Wanted.TheVariants as ready
 use Rattle.px_stream.specs.declared.stream.Stream.{Stream}
 use Rattle.px_stream.specs.Anywhere.{IsCounted, IsFew, IsInSequence, ResumesAnywhere, Somewhere, TakesAnywhere}
-use Rattle.px_stream.specs.Heard.{SideAgrees, closes_client, requests_take, side_takes}
-use Rattle.px_stream.specs.Looks.{LookFound, MayLook}
+use Rattle.px_stream.specs.GoingUp.{MayGoUp, MayReadUp, MayTakeSide, ParkedOpen}
+use Rattle.px_stream.specs.Heard.{SideAgrees, requests_take, side_takes}
+use Rattle.px_stream.specs.Looks.{MayLook}
 use Rattle.px_stream.specs.Passes.{Advances, MayPass, is_passing}
-use Rattle.px_stream.specs.Stands.{AskedSide, HasPlace, HasRequest, HasSide, IsAsked, IsAt, IsIn, IsLink, IsOpen, IsPlaced, IsReady, IsSome, LinkKeeps, PhaseAt, ReadsDown, ReadsFinal, ReadsReturn, SentOn, asked_in, awaits, content_in, is_last, none_sent, parked_link, sent_on, stage_of, used_in}
+use Rattle.px_stream.specs.Stands.{AskedSide, GoesOnUp, HasPlace, HasRequest, HasSide, IsAsked, IsAt, IsIn, IsLink, IsOpen, IsPlaced, IsReady, IsSome, LinkKeeps, PhaseAt, ReadsDown, ReadsFinal, ReadsGoing, ReadsReturn, SentOn, WaitsUp, asked_in, awaits, bare, is_last, parked_link, sent_on, stage_of, used_in}
 use Rattle.px_stream.proofs.StateLaws.{ends_last, ends_where_it_ends}
 use Rattle.px_stream.specs.Tells.{sequence_left}
-use Rattle.px_stream.specs.Turns.{FirstHeld, Hears, Shows, Turned, TurnsTo, asked_turn, is_dial, requests_behind, side_behind, used_at}
+use Rattle.px_stream.specs.Turns.{Hears, Shows, Turned, TurnsTo, asked_turn, first_sent, requests_behind, turn_gives, used_at}
 use Rattle.px_stream.proofs.AdvanceLemmas.{AdvancedTo, advances_to, owed_at, owed_in, passed_to}
 use Rattle.px_stream.proofs.AskLemmas.{used_asked, used_of}
 use Rattle.px_stream.proofs.HearLemmas.{place_on, ready_on}
-use Rattle.px_stream.proofs.LookLemmas.{parked_used}
 use Rattle.px_stream.proofs.MoveLemmas.{pass_few, resumes_asks, resumes_left, sequence_few, takes_asks, takes_left, turn_few}
-use Rattle.px_stream.proofs.TurnLemmas.{turn_asked, turned}
+use Rattle.px_stream.proofs.TurnAskedLemmas.{turn_asked}
+use Rattle.px_stream.proofs.TurnLemmas.{turned}
 
 -- ---- the calls
 
@@ -62,6 +66,8 @@ pub record Answers (before after : Stream) (moment : ℕ) (reply : Reply) (found
 
 -- It may go on from here, and look.
 pub record MayAdvance (at : At) (requests : State) (side : Option Link) (looked : Wanted) : Type 0 where
+  pub goes_up : MayGoUp looked requests
+  pub takes : MayTakeSide at looked side
   pub passes : MayPass at looked side
   pub looks : is_passing looked ≡ false → MayLook looked requests side
 
@@ -91,12 +97,12 @@ same_tail (x ∷ xs) ys zs is = same_tail xs ys zs (let e : x ∷ (xs ++ ys) ≡
 
 module _ (made : Terms) (place : Standing) (prefix : List (Timed Event)) (seen : Sight) (same : sight_over place prefix ≡ seen) where
   -- a state that is at the stage passed to, in what is left of the sight, is there
-  pub at_walked : (state : Stream) → IsWithin place prefix → IsIn made state (passed_to place.stage seen) (sight_past place.stage seen) →
-      IsAt made state (passed sequence place (sight_over place prefix)) prefix
+  pub at_walked : (state : Stream) → IsWithin place prefix → IsIn made state (passed_to made place.stage seen) (sight_past made place.stage seen) →
+      IsAt made state (passed sequence made place (sight_over place prefix)) prefix
   at_walked state within is = record {
-    within = within_passed sequence (is_sequence refl) place prefix within;
-    is_in = subst (λ s. IsIn made state (passed_to place.stage (sight_over place prefix)) s) (sym (sight_passed sequence (is_sequence refl) place prefix))
-        (subst (λ s. IsIn made state (passed_to place.stage s) (sight_past place.stage s)) (sym same) is);
+    within = within_passed sequence (is_sequence refl) made place prefix within;
+    is_in = subst (λ s. IsIn made state (passed_to made place.stage (sight_over place prefix)) s) (sym (sight_passed sequence (is_sequence refl) made place prefix))
+        (subst (λ s. IsIn made state (passed_to made place.stage s) (sight_past made place.stage s)) (sym same) is);
   }
 
   -- what is added behind what was owed is what is owed now
@@ -107,7 +113,7 @@ module _ (made : Terms) (place : Standing) (prefix : List (Timed Event)) (seen :
       sym (seen_append view before more)
       ∙ (owes
       ∙ ap (seen_of view) (ap (λ s. owed_in made place.stage s) (sym same)
-      ∙ ap (λ s. (pass place.stage sees).owed ++ owed_at made (passed_to place.stage sees) s) (sym (sight_passed sequence (is_sequence refl) place prefix))))
+      ∙ ap (λ s. (pass made place.stage sees).owed ++ owed_at made (passed_to made place.stage sees) s) (sym (sight_passed sequence (is_sequence refl) made place prefix))))
 
 -- ---- what the readers may hear, and look for
 
@@ -128,26 +134,26 @@ reads_down flow server seen is_sent text side has =
     open_to (ReadsDown flow server seen is_sent text) (λ link. IsReading link.responses)
     (λ link is. record { message = response (is_head flow.request.method); told = answers is.head ∷ is.marks; fed = is.is_link.fed; closed = seen.shut; reads = is.is_link.reads }) side has
 
-may_look_by : (at : At) (looked : Wanted) (seen : Sight) (sent : SentOn) (requests : State) (side : Option Link) → HasRequest (stage_of at looked) seen (content_in looked) requests →
+may_look_by : (terms : Terms) (at : At) (looked : Wanted) (seen : Sight) (sent : SentOn) (requests : State) (side : Option Link) → HasRequest terms (stage_of at looked) seen sent.up looked requests →
     HasSide (stage_of at looked) seen sent looked side → MayLook looked requests side
-may_look_by at ready.Idle seen sent requests side reads has = tt
-may_look_by at (ready.RequestBody flow given body) seen sent requests side reads has =
+may_look_by terms at ready.Idle seen sent requests side reads has = tt
+may_look_by terms at (ready.RequestBody flow given most body held) seen sent requests side reads has =
     record { message = request; told = asks reads.head ∷ reads.marks; fed = seen.client; closed = false; reads = reads.reads }
-may_look_by at (ready.Connection flow) seen sent requests side reads has = tt
-may_look_by at (ready.ResponseHead flow server) seen sent requests side reads has =
+may_look_by terms at (ready.Connection flow up) seen sent requests side reads has = tt
+may_look_by terms at (ready.ResponseHead flow server up) seen sent requests side reads has =
     open_to (IsLink flow.request server seen sent.interim []) _
     (λ link is. record { asked_head = is_head flow.request.method; number = server; bytes = seen.server; shut = seen.shut; sent = sent.interim; keeps = is }) side has
-may_look_by at (ready.ResponseBody flow server most body held) seen sent requests side reads has = reads_return flow server most seen body held side has
-may_look_by at (ready.ComingDown flow server its) seen sent requests side reads has = reads_down flow server seen (Some its) sent.text side has
-may_look_by at (ready.Upgraded flow server) seen sent requests side reads has = tt
-may_look_by at (ready.GivenHead flow) seen sent requests side reads has = tt
-may_look_by at (ready.GivenBody flow) seen sent requests side reads has = tt
-may_look_by at (ready.Connects address) seen sent requests side reads has = tt
-may_look_by at ready.Over seen sent requests side reads has = tt
+may_look_by terms at (ready.ResponseBody flow server up most body held) seen sent requests side reads has = reads_return flow server most seen body held side has
+may_look_by terms at (ready.ComingDown flow server up its) seen sent requests side reads has = reads_down flow server seen (Some its) sent.text side has
+may_look_by terms at (ready.Upgraded flow server) seen sent requests side reads has = tt
+may_look_by terms at (ready.GivenHead flow) seen sent requests side reads has = tt
+may_look_by terms at (ready.GivenBody flow) seen sent requests side reads has = tt
+may_look_by terms at (ready.Connects address) seen sent requests side reads has = tt
+may_look_by terms at ready.Over seen sent requests side reads has = tt
 
-pub may_look : (at : At) (requests : State) (side : Option Link) (looked : Wanted) (stage : Stage) (seen : Sight) (sent : SentOn) → IsReady at requests side looked stage seen sent → MayLook looked requests side
-may_look at requests side looked stage seen sent is =
-    may_look_by at looked seen sent requests side (subst (λ s. HasRequest s seen (content_in looked) requests) (sym is.is_stage) is.request)
+pub may_look : (terms : Terms) (at : At) (requests : State) (side : Option Link) (looked : Wanted) (stage : Stage) (seen : Sight) (sent : SentOn) → IsReady terms at requests side looked stage seen sent → MayLook looked requests side
+may_look terms at requests side looked stage seen sent is =
+    may_look_by terms at looked seen sent requests side (subst (λ s. HasRequest terms s seen sent.up looked requests) (sym is.is_stage) is.request)
     (subst (λ s. HasSide s seen sent looked side) (sym is.is_stage) is.has_side)
 
 -- where a body may be streamed, or is, its response is there
@@ -161,13 +167,13 @@ down_given flow server seen is_sent text (Some link) is = let P : Option Respons
 
 may_pass_by : (ahead : ℕ) (at : At) (looked : Wanted) (seen : Sight) (sent : SentOn) (side : Option Link) → IsFew ahead (stage_of at looked) → HasSide (stage_of at looked) seen sent looked side → MayPass at looked side
 may_pass_by ahead at ready.Idle seen sent side few has = tt
-may_pass_by ahead at (ready.RequestBody flow given body) seen sent side few has = tt
-may_pass_by ahead at (ready.Connection flow) seen sent side few has = tt
-may_pass_by ahead at (ready.ResponseHead flow server) seen sent side few has = tt
-may_pass_by ahead at (ready.ResponseBody flow server most body None) seen sent side few has = tt
-may_pass_by ahead at (ready.ResponseBody flow server most body (Some held)) seen sent side few has =
+may_pass_by ahead at (ready.RequestBody flow given most body held) seen sent side few has = tt
+may_pass_by ahead at (ready.Connection flow up) seen sent side few has = tt
+may_pass_by ahead at (ready.ResponseHead flow server up) seen sent side few has = tt
+may_pass_by ahead at (ready.ResponseBody flow server up most body None) seen sent side few has = tt
+may_pass_by ahead at (ready.ResponseBody flow server up most body (Some held)) seen sent side few has =
     record { few = few.few; given = held_given flow server most seen body held side has; reads = reads_return flow server most seen body (Some held) side has }
-may_pass_by ahead at (ready.ComingDown flow server its) seen sent side few has =
+may_pass_by ahead at (ready.ComingDown flow server up its) seen sent side few has =
     record { few = few.few; given = down_given flow server seen (Some its) sent.text side has; reads = reads_down flow server seen (Some its) sent.text side has }
 may_pass_by ahead at (ready.Upgraded flow server) seen sent side few has = tt
 may_pass_by ahead at (ready.GivenHead flow) seen sent side few has = tt
@@ -175,12 +181,62 @@ may_pass_by ahead at (ready.GivenBody flow) seen sent side few has = tt
 may_pass_by ahead at (ready.Connects address) seen sent side few has = tt
 may_pass_by ahead at ready.Over seen sent side few has = tt
 
+-- a request that goes up is read on, and one that may yet go up
+reads_on : (flow : Flow) (seen : Sight) (is_sent : Option Request) (marks : List Mark) (requests : State) → ReadsGoing flow seen is_sent marks requests → IsReading requests
+reads_on flow seen is_sent marks requests is = record { message = request; told = asks is.head ∷ marks; fed = seen.client; closed = false; reads = is.reads }
+
+reads_up : (terms : Terms) (flow : Flow) (seen : Sight) (up : Sending) (text : List ℕ) (requests : State) → GoesOnUp terms flow seen up text requests → MayReadUp up requests
+reads_up terms flow seen sending.All text requests is = tt
+reads_up terms flow seen (sending.GoingUp sent) text requests is = reads_on flow seen (Some sent) is.marks requests is.going_on
+
+may_go_up_by : (terms : Terms) (at : At) (looked : Wanted) (seen : Sight) (sent : SentOn) (requests : State) → HasRequest terms (stage_of at looked) seen sent.up looked requests → MayGoUp looked requests
+may_go_up_by terms at ready.Idle seen sent requests reads = tt
+may_go_up_by terms at (ready.RequestBody flow given most body None) seen sent requests reads = tt
+may_go_up_by terms at (ready.RequestBody flow given most body (Some held)) seen sent requests reads =
+    record { message = request; told = asks reads.head ∷ reads.marks; fed = seen.client; closed = false; reads = reads.reads }
+may_go_up_by terms at (ready.Connection flow up) seen sent requests reads = tt
+may_go_up_by terms at (ready.ResponseHead flow server up) seen sent requests reads = reads_up terms flow seen up sent.up requests reads
+may_go_up_by terms at (ready.ResponseBody flow server up most body held) seen sent requests reads = reads_up terms flow seen up sent.up requests reads
+may_go_up_by terms at (ready.ComingDown flow server up its) seen sent requests reads = reads_up terms flow seen up sent.up requests reads
+may_go_up_by terms at (ready.Upgraded flow server) seen sent requests reads = tt
+may_go_up_by terms at (ready.GivenHead flow) seen sent requests reads = tt
+may_go_up_by terms at (ready.GivenBody flow) seen sent requests reads = tt
+may_go_up_by terms at (ready.Connects address) seen sent requests reads = tt
+may_go_up_by terms at ready.Over seen sent requests reads = tt
+
+-- and its server's side, where that is parked, is open
+parked_open : (parked : Option Parked) (seen : Sight) (side : Option Link) → side ≡ parked_link parked seen → ParkedOpen parked side
+parked_open None seen side is = tt
+parked_open (Some parked) seen side is = let P : Option Link → Type 0 = IsSome in subst P (sym is) tt
+
+may_take_by : (at : At) (looked : Wanted) (seen : Sight) (sent : SentOn) (side : Option Link) → HasSide (stage_of at looked) seen sent looked side → MayTakeSide at looked side
+may_take_by at ready.Idle seen sent side has = tt
+may_take_by at (ready.RequestBody flow given most body None) seen sent side has = tt
+may_take_by at (ready.RequestBody flow given most body (Some held)) seen sent side has = parked_open at.parked seen side has
+may_take_by at (ready.Connection flow up) seen sent side has = tt
+may_take_by at (ready.ResponseHead flow server up) seen sent side has = tt
+may_take_by at (ready.ResponseBody flow server up most body held) seen sent side has = tt
+may_take_by at (ready.ComingDown flow server up its) seen sent side has = tt
+may_take_by at (ready.Upgraded flow server) seen sent side has = tt
+may_take_by at (ready.GivenHead flow) seen sent side has = tt
+may_take_by at (ready.GivenBody flow) seen sent side has = tt
+may_take_by at (ready.Connects address) seen sent side has = tt
+may_take_by at ready.Over seen sent side has = tt
+
+pub may_go_up : (terms : Terms) (at : At) (requests : State) (side : Option Link) (looked : Wanted) (stage : Stage) (seen : Sight) (sent : SentOn) → IsReady terms at requests side looked stage seen sent → MayGoUp looked requests
+may_go_up terms at requests side looked stage seen sent is = may_go_up_by terms at looked seen sent requests (subst (λ s. HasRequest terms s seen sent.up looked requests) (sym is.is_stage) is.request)
+
+pub may_take : (terms : Terms) (at : At) (requests : State) (side : Option Link) (looked : Wanted) (stage : Stage) (seen : Sight) (sent : SentOn) → IsReady terms at requests side looked stage seen sent → MayTakeSide at looked side
+may_take terms at requests side looked stage seen sent is = may_take_by at looked seen sent side (subst (λ s. HasSide s seen sent looked side) (sym is.is_stage) is.has_side)
+
 -- It may go on, and look, where the flow is one of a few.
-pub may_advance : (ahead : ℕ) (at : At) (requests : State) (side : Option Link) (looked : Wanted) (stage : Stage) (seen : Sight) (sent : SentOn) → IsFew ahead stage →
-    IsReady at requests side looked stage seen sent → MayAdvance at requests side looked
-may_advance ahead at requests side looked stage seen sent few is = record {
+pub may_advance : (ahead : ℕ) (terms : Terms) (at : At) (requests : State) (side : Option Link) (looked : Wanted) (stage : Stage) (seen : Sight) (sent : SentOn) → IsFew ahead stage →
+    IsReady terms at requests side looked stage seen sent → MayAdvance at requests side looked
+may_advance ahead terms at requests side looked stage seen sent few is = record {
+  goes_up = may_go_up terms at requests side looked stage seen sent is;
+  takes = may_take terms at requests side looked stage seen sent is;
   passes = may_pass_by ahead at looked seen sent side (subst (IsFew ahead) (sym is.is_stage) few) (subst (λ s. HasSide s seen sent looked side) (sym is.is_stage) is.has_side);
-  looks = λ none. may_look at requests side looked stage seen sent is;
+  looks = λ none. may_look terms at requests side looked stage seen sent is;
 }
 
 parked_agrees : (parked : Option Parked) (seen : Sight) (side : Option Link) → side ≡ parked_link parked seen → SideAgrees side
@@ -207,45 +263,54 @@ pub record MayHearMore (requests : State) (side : Option Link) : Type 0 where
   pub open_still : requests.closed ≡ false
   pub agrees : SideAgrees side
 
-hears_by : (at : At) (looked : Wanted) (seen : Sight) (sent : SentOn) (requests : State) (side : Option Link) → is_last (phase.Ready looked) ≡ false →
-    HasRequest (stage_of at looked) seen (content_in looked) requests → HasSide (stage_of at looked) seen sent looked side → MayHearMore requests side
-hears_by at ready.Idle seen sent requests side goes reads has = record { open_still = reads.closed; agrees = parked_agrees at.parked seen side has }
-hears_by at (ready.RequestBody flow given body) seen sent requests side goes reads has = record { open_still = reads.reads.closed; agrees = parked_agrees at.parked seen side has }
-hears_by at (ready.Connection flow) seen sent requests side goes reads has = record { open_still = reads.open_still; agrees = parked_agrees at.parked seen side has }
-hears_by at (ready.ResponseHead flow server) seen sent requests side goes reads has =
-    record { open_still = reads.open_still; agrees = link_agrees flow.request server seen sent.interim [] side has }
-hears_by at (ready.ResponseBody flow server most body held) seen sent requests side goes reads has =
-    record { open_still = reads.open_still; agrees = return_agrees flow server most seen body held side has }
-hears_by at (ready.ComingDown flow server its) seen sent requests side goes reads has =
-    record { open_still = reads.open_still; agrees = down_agrees flow server seen (Some its) sent.text side has }
-hears_by at (ready.Upgraded flow server) seen sent requests side goes reads has = absurd (let no : true ≡ false = goes in cc)
-hears_by at (ready.GivenHead flow) seen sent requests side goes reads has = record { open_still = reads.open_still; agrees = parked_agrees at.parked seen side has }
-hears_by at (ready.GivenBody flow) seen sent requests side goes reads has = record { open_still = reads.open_still; agrees = parked_agrees at.parked seen side has }
-hears_by at (ready.Connects address) seen sent requests side goes reads has = absurd (let no : true ≡ false = goes in cc)
-hears_by at ready.Over seen sent requests side goes reads has = absurd (let no : true ≡ false = goes in cc)
+-- a request that goes up is open still
+pub waits_unclosed : (terms : Terms) (flow : Flow) (seen : Sight) (up : Option Going) (requests : State) → WaitsUp terms flow seen up requests → requests.closed ≡ false
+waits_unclosed terms flow seen None requests is = is.open_still
+waits_unclosed terms flow seen (Some going) requests is = is.going_on.reads.closed
 
-may_hear : (at : At) (requests : State) (side : Option Link) (looked : Wanted) (stage : Stage) (seen : Sight) (sent : SentOn) → is_last (phase.Ready looked) ≡ false →
-    IsReady at requests side looked stage seen sent → MayHearMore requests side
-may_hear at requests side looked stage seen sent goes is =
-    hears_by at looked seen sent requests side goes (subst (λ s. HasRequest s seen (content_in looked) requests) (sym is.is_stage) is.request)
+up_open : (terms : Terms) (flow : Flow) (seen : Sight) (up : Sending) (text : List ℕ) (requests : State) → GoesOnUp terms flow seen up text requests → requests.closed ≡ false
+up_open terms flow seen sending.All text requests is = is.open_still
+up_open terms flow seen (sending.GoingUp sent) text requests is = is.going_on.reads.closed
+
+hears_by : (terms : Terms) (at : At) (looked : Wanted) (seen : Sight) (sent : SentOn) (requests : State) (side : Option Link) → is_last (phase.Ready looked) ≡ false →
+    HasRequest terms (stage_of at looked) seen sent.up looked requests → HasSide (stage_of at looked) seen sent looked side → MayHearMore requests side
+hears_by terms at ready.Idle seen sent requests side goes reads has = record { open_still = reads.closed; agrees = parked_agrees at.parked seen side has }
+hears_by terms at (ready.RequestBody flow given most body held) seen sent requests side goes reads has = record { open_still = reads.reads.closed; agrees = parked_agrees at.parked seen side has }
+hears_by terms at (ready.Connection flow up) seen sent requests side goes reads has = record { open_still = waits_unclosed terms flow seen up requests reads; agrees = parked_agrees at.parked seen side has }
+hears_by terms at (ready.ResponseHead flow server up) seen sent requests side goes reads has =
+    record { open_still = up_open terms flow seen up sent.up requests reads; agrees = link_agrees flow.request server seen sent.interim [] side has }
+hears_by terms at (ready.ResponseBody flow server up most body held) seen sent requests side goes reads has =
+    record { open_still = up_open terms flow seen up sent.up requests reads; agrees = return_agrees flow server most seen body held side has }
+hears_by terms at (ready.ComingDown flow server up its) seen sent requests side goes reads has =
+    record { open_still = up_open terms flow seen up sent.up requests reads; agrees = down_agrees flow server seen (Some its) sent.text side has }
+hears_by terms at (ready.Upgraded flow server) seen sent requests side goes reads has = absurd (let no : true ≡ false = goes in cc)
+hears_by terms at (ready.GivenHead flow) seen sent requests side goes reads has = record { open_still = reads.open_still; agrees = parked_agrees at.parked seen side has }
+hears_by terms at (ready.GivenBody flow) seen sent requests side goes reads has = record { open_still = reads.open_still; agrees = parked_agrees at.parked seen side has }
+hears_by terms at (ready.Connects address) seen sent requests side goes reads has = absurd (let no : true ≡ false = goes in cc)
+hears_by terms at ready.Over seen sent requests side goes reads has = absurd (let no : true ≡ false = goes in cc)
+
+may_hear : (terms : Terms) (at : At) (requests : State) (side : Option Link) (looked : Wanted) (stage : Stage) (seen : Sight) (sent : SentOn) → is_last (phase.Ready looked) ≡ false →
+    IsReady terms at requests side looked stage seen sent → MayHearMore requests side
+may_hear terms at requests side looked stage seen sent goes is =
+    hears_by terms at looked seen sent requests side goes (subst (λ s. HasRequest terms s seen sent.up looked requests) (sym is.is_stage) is.request)
     (subst (λ s. HasSide s seen sent looked side) (sym is.is_stage) is.has_side)
 
 -- where a state that looks for something stands
 pub record LooksAt (made : Terms) (state : Stream) (looked : Wanted) (stage : Stage) (seen : Sight) : Type 0 where
   pub waits : look made stage seen ≡ NotYet
   pub sent : SentOn
-  pub ready : IsReady state.at state.requests state.side looked stage seen sent
-  pub gave : so_far stage seen ≡ sent_on stage sent
+  pub ready : IsReady made state.at state.requests state.side looked stage seen sent
+  pub gave : (view : View) → seen_of view (so_far made stage seen) ≡ seen_of view (sent_on stage sent)
 
 module _ (made : Terms) (state : Stream) (stage : Stage) (seen : Sight) where
   abbrev Found : Look Command → Type 0
   Found l = PhaseAt l made state.at state.requests state.side state.phase stage seen
 
   looks_by : (looked : Wanted) → state.phase ≡ phase.Ready looked → is_last (phase.Ready looked) ≡ false → (l : Look Command) → look made stage seen ≡ l → Found l → LooksAt made state looked stage seen
-  looks_by looked live goes NotYet is (known, sent, same, there, gave) =
+  looks_by looked live goes NotYet is (known, sent, same, there, gave, rests) =
       let one : phase.Ready known ≡ phase.Ready looked = sym same ∙ live in
       let same_looked : known ≡ looked = cc in
-      record { waits = is; sent = sent; ready = subst (λ r. IsReady state.at state.requests state.side r stage seen sent) same_looked there; gave = gave }
+      record { waits = is; sent = sent; ready = subst (λ r. IsReady made state.at state.requests state.side r stage seen sent) same_looked there; gave = gave }
   looks_by looked live goes (Asks ask) is (here, same, there) = absurd (let e : phase.Asked here ≡ phase.Ready looked = sym same ∙ live in cc)
   looks_by looked live goes (Ends owed) is (last, same, there) =
       absurd (let no : true ≡ false = sym (ends_last made stage seen state.requests state.side last there) ∙ (ap is_last (sym same ∙ live) ∙ goes) in cc)
@@ -255,7 +320,7 @@ module _ (made : Terms) (state : Stream) (stage : Stage) (seen : Sight) where
 
   asked_by : (found : Asked) → state.phase ≡ phase.Asked found → (l : Look Command) → look made stage seen ≡ l → Found l →
       (ask : Command) × (look made stage seen ≡ Asks ask) × IsAsked made state.requests state.side found stage seen
-  asked_by found live NotYet is (known, sent, same, there, gave) = absurd (let e : phase.Ready known ≡ phase.Asked found = sym same ∙ live in cc)
+  asked_by found live NotYet is (known, sent, same, there, gave, rests) = absurd (let e : phase.Ready known ≡ phase.Asked found = sym same ∙ live in cc)
   asked_by found live (Asks ask) is (here, same, there) =
       let e : phase.Asked here ≡ phase.Asked found = sym same ∙ live in
       let same_asked : here ≡ found = cc in
@@ -272,15 +337,15 @@ module _ (made : Terms) (state : Stream) (stage : Stage) (seen : Sight) where
 module _ (before after : Stream) (moment : ℕ) (event : Event) (out longer : List Command) where
   -- it heard the event, went on and looked
   heard_in : (made : Terms) (stage : Stage) (seen : Sight) (looked : Wanted) (between : Stream) → IsIn made before stage seen → LooksAt made before looked stage seen →
-      Hears before between event → Advances between after moment looked out longer → (sent : SentOn) → IsReady before.at before.requests before.side looked stage seen sent →
+      Hears before between event → Advances between after moment looked out longer → (sent : SentOn) → IsReady made before.at before.requests before.side looked stage seen sent →
       AdvancedTo made after stage (sight_with (side_of stage) seen event moment) sent out longer
   heard_in made stage seen looked between is there heard once sent ready =
       let later : Sight = sight_with (side_of stage) seen event moment in
       let on = ready_on made seen event moment stage before.at before.requests before.side looked sent there.waits ready in
       advances_to made between after moment looked out longer stage later sent (heard.terms ∙ is.terms) refl
-      (subst (λ a. IsReady a between.requests between.side looked stage later sent) (sym heard.at)
-      (subst (λ r. IsReady before.at r between.side looked stage later sent) (sym heard.requests)
-      (subst (λ s. IsReady before.at (requests_take event before.requests) s looked stage later sent) (sym heard.side) on)))
+      (subst (λ a. IsReady made a between.requests between.side looked stage later sent) (sym heard.at)
+      (subst (λ r. IsReady made before.at r between.side looked stage later sent) (sym heard.requests)
+      (subst (λ s. IsReady made before.at (requests_take event before.requests) s looked stage later sent) (sym heard.side) on)))
       (subst (λ a. HasPlace stage later a between.client_closed) (sym heard.at)
       (subst (λ c. HasPlace stage later before.at c) (sym heard.client) (place_on stage seen event moment before.at before.client_closed is.place)))
       once
@@ -310,7 +375,7 @@ module _ (before after : Stream) (moment : ℕ) (event : Event) (out longer : Li
       let same : sight_over place (prefix ++ now ∷ []) ≡ later = sight_more place prefix now (open_still made place.stage seen there.waits) at.within in
       let same_more : got.more ≡ more = same_tail out got.more more (sym got.grown ∙ grown) in
       onward there.waits (at_walked made place (prefix ++ now ∷ []) later same after (within_more place prefix now at.within) got.is_in)
-      (λ view. ap (λ l. seen_of view l ++ seen_of view more) there.gave
+      (λ view. ap (λ l. l ++ seen_of view more) (there.gave view)
       ∙ gives_walked made place (prefix ++ now ∷ []) later same view (sent_on place.stage there.sent) more
       (subst (λ l. seen_of view (sent_on place.stage there.sent ++ l) ≡ seen_of view (owed_in made place.stage later)) same_more (got.owes view)))
 
@@ -346,11 +411,11 @@ pub hears_anywhere : (state : Stream) (event : Event) → Somewhere state → (l
 hears_anywhere state event (made, ahead, place, prefix, stands) looked live goes =
     let seen : Sight = sight_over place prefix in
     let there = looks_at made state place.stage seen looked live goes stands.is_at.is_in in
-    let more = may_hear state.at state.requests state.side looked place.stage seen there.sent goes there.ready in
+    let more = may_hear made state.at state.requests state.side looked place.stage seen there.sent goes there.ready in
     record {
       agrees = more.agrees;
       open_still = more.open_still;
-      advances = may_advance ahead state.at (requests_take event state.requests) (side_takes event state.side) looked place.stage (sight_with (side_of place.stage) seen event 0) there.sent stands.few
+      advances = may_advance ahead made state.at (requests_take event state.requests) (side_takes event state.side) looked place.stage (sight_with (side_of place.stage) seen event 0) there.sent stands.few
           (ready_on made seen event 0 place.stage state.at state.requests state.side looked there.sent there.waits there.ready);
     }
 
@@ -369,8 +434,12 @@ is_awaited None reply may = may
 is_awaited (Some ask) reply may = tt
 
 -- the side that is used where something was asked is the one that the sight shows
+parked_seen : (parked : Option Parked) (seen : Sight) → server_parked parked seen ≡ used_in (parked_link parked seen)
+parked_seen None seen = refl
+parked_seen (Some parked) seen = refl
+
 parked_shows : (parked : Option Parked) (seen : Sight) (side : Option Link) → side ≡ parked_link parked seen → server_parked parked seen ≡ used_in side
-parked_shows parked seen side is = sym (ap used_in is ∙ parked_used parked seen)
+parked_shows parked seen side is = parked_seen parked seen ∙ sym (ap used_in is)
 
 link_shows : (server : ℕ) (seen : Sight) (link : Link) → link.server ≡ server → link.closed ≡ seen.shut → server_in server seen ≡ used_in (Some link)
 link_shows server seen link one two = rw (one, two) refl
@@ -383,24 +452,34 @@ kept_shows : (server : ℕ) (bytes : List ℕ) (seen : Sight) (side : Option Lin
 kept_shows server bytes seen None is = absurd is
 kept_shows server bytes seen (Some link) is = link_shows server seen link is.server is.closed
 
-shows_for : (terms : Terms) (stage : Stage) (seen : Sight) (side : Option Link) (found : Asked) → asked_in terms stage seen ≡ Some found → AskedSide stage seen side → used_of stage seen ≡ used_in side
+shows_for : (terms : Terms) (stage : Stage) (seen : Sight) (side : Option Link) (found : Asked) → asked_in terms stage seen ≡ Some (bare found) → AskedSide stage seen side → used_of stage seen ≡ used_in side
 shows_for terms (idle at) seen side found is_asked is = parked_shows at.parked seen side is
-shows_for terms (busy at flow (request_body given)) seen side found is_asked is = parked_shows at.parked seen side is
-shows_for terms (busy at flow connection) seen side found is_asked is = parked_shows at.parked seen side is
+shows_for terms (busy at flow (request_body given most)) seen side found is_asked is = parked_shows at.parked seen side is
+shows_for terms (busy at flow (connection how)) seen side found is_asked is = parked_shows at.parked seen side is
 shows_for terms (busy at flow (response_head server how)) seen side found is_asked is = final_shows flow.request server seen side is
 shows_for terms (busy at flow (response_body server how most)) seen side found is_asked is = kept_shows server _ seen side is
-shows_for terms (busy at flow (coming_down server how)) seen side found is_asked is = absurd (let no : None ≡ Some found = is_asked in cc)
+shows_for terms (busy at flow (coming_down server how)) seen side found is_asked is = absurd (let no : None ≡ Some (bare found) = is_asked in cc)
 shows_for terms (busy at flow (upgraded server)) seen side found is_asked is = parked_shows at.parked seen side is
 shows_for terms (busy at flow given_head) seen side found is_asked is = parked_shows at.parked seen side is
 shows_for terms (busy at flow given_body) seen side found is_asked is = parked_shows at.parked seen side is
-shows_for terms (next at) seen side found is_asked is = absurd (let no : None ≡ Some found = is_asked in cc)
-shows_for terms over seen side found is_asked is = absurd (let no : None ≡ Some found = is_asked in cc)
+shows_for terms (next at) seen side found is_asked is = absurd (let no : None ≡ Some (bare found) = is_asked in cc)
+shows_for terms over seen side found is_asked is = absurd (let no : None ≡ Some (bare found) = is_asked in cc)
 
-placed : (terms : Terms) (stage : Stage) (seen : Sight) (found : Asked) (at : At) (closed : Bool) → asked_in terms stage seen ≡ Some found → HasPlace stage seen at closed → IsPlaced (place_of stage) seen at closed
+placed : (terms : Terms) (stage : Stage) (seen : Sight) (found : Asked) (at : At) (closed : Bool) → asked_in terms stage seen ≡ Some (bare found) → HasPlace stage seen at closed → IsPlaced (place_of stage) seen at closed
 placed terms (idle here) seen found at closed is_asked is = is
 placed terms (busy here flow doing) seen found at closed is_asked is = is
 placed terms (next here) seen found at closed is_asked is = is
-placed terms over seen found at closed is_asked is = absurd (let no : None ≡ Some found = is_asked in cc)
+placed terms over seen found at closed is_asked is = absurd (let no : None ≡ Some (bare found) = is_asked in cc)
+
+-- what is given in all is what is owed, and then that
+gives_first : (at : At) (found : Asked) (reply : Reply) (owed : List Command) → turn_gives at found reply owed ≡ owed ++ first_sent at found reply
+gives_first at (asked.Idle flow expects) reply owed = sym (append-nil owed)
+gives_first at (asked.RequestBody flow) reply owed = sym (append-nil owed)
+gives_first at (asked.Connection flow server up) reply owed = refl
+gives_first at (asked.ResponseHead flow server up) reply owed = sym (append-nil owed)
+gives_first at (asked.ResponseBody flow server up) reply owed = sym (append-nil owed)
+gives_first at (asked.GivenHead flow) reply owed = sym (append-nil owed)
+gives_first at (asked.GivenBody flow) reply owed = sym (append-nil owed)
 
 module _ (before : Stream) (moment : ℕ) (reply : Reply) (found : Asked) (live : before.phase ≡ phase.Asked found) where
   abbrev answer : Timed Reply
@@ -414,7 +493,7 @@ module _ (before : Stream) (moment : ℕ) (reply : Reply) (found : Asked) (live 
     to = sequence (turn made stage seen answer).stage
 
     abbrev sees : Sight
-    sees = sight_behind stage seen moment to
+    sees = sight_behind made.place stage seen moment to
 
     place_is : IsPlaced (place_of stage) seen before.at before.client_closed
     place_is = placed made stage seen found before.at before.client_closed asking.2.asks is.place
@@ -431,17 +510,24 @@ module _ (before : Stream) (moment : ℕ) (reply : Reply) (found : Asked) (live 
         ap (λ (t : Terms). asked_turn t before.at found seen (used_in before.side) before.client_closed answer) is.terms
         ∙ (ap (λ a. asked_turn made a found seen (used_in before.side) before.client_closed answer) place_is.is_here
         ∙ (ap (λ u. asked_turn made (place_of stage) found seen u before.client_closed answer) (sym (shows_for made stage seen before.side found asking.2.asks asking.2.has_side))
-        ∙ (ap (λ c. asked_turn made (place_of stage) found seen (used_of stage seen) c answer) place_is.client ∙ sym (turn_asked made seen answer stage found asking.2.asks))))
+        ∙ (ap (λ c. asked_turn made (place_of stage) found seen (used_of stage seen) c answer) place_is.client ∙ sym (turn_asked made seen answer stage found asking.2.asks asking.2.how))))
+
+    -- what a server is sent that is connected
+    abbrev first : List Command
+    first = first_sent (place_of stage) found reply
 
     -- where a turn led
     pub turns_in : (between : Stream) (looked : Wanted) (out given : List Command) → TurnsTo before between moment reply found looked out given →
-        (given ≡ out ++ (turn made stage seen answer).owed) × Turned to sees between.at between.requests between.side looked between.client_closed
+        (given ≡ out ++ ((turn made stage seen answer).owed ++ first)) × Turned made to sees between.at between.requests between.side looked between.client_closed first
     turns_in between looked out given call =
         let leads : stage_of between.at looked ≡ to = call.leads seen shows ∙ ap (λ (t : Turn Stage Command). sequence t.stage) turn_is in
-        let there = turned made stage seen answer before.requests before.side found between.at looked between.client_closed asking.2 leads call.content call.held (call.client ∙ place_is.client) in (
-          call.gives seen shows ∙ ap (λ (t : Turn Stage Command). out ++ t.owed) turn_is,
-          subst (λ r. Turned to sees between.at r between.side looked between.client_closed) (sym call.requests)
-              (subst (λ s. Turned to sees between.at (requests_behind (stage_of between.at looked) before.requests) s looked between.client_closed) (sym call.side) there),
+        let there = turned made stage seen answer before.requests before.side found between.at looked between.client_closed asking.2 leads call.content call.held call.up (call.client ∙ place_is.client) in (
+          call.gives seen shows
+              ∙ (ap (λ (t : Turn Stage Command). out ++ turn_gives before.at found reply t.owed) turn_is
+              ∙ (ap (λ a. out ++ turn_gives a found reply (turn made stage seen answer).owed) place_is.is_here
+              ∙ ap (λ l. out ++ l) (gives_first (place_of stage) found reply (turn made stage seen answer).owed))),
+          subst (λ r. Turned made to sees between.at r between.side looked between.client_closed first) (sym call.requests)
+              (subst (λ s. Turned made to sees between.at (requests_behind (stage_of between.at looked) before.requests) s looked between.client_closed first) (sym call.side) there),
         )
 
     -- it may go on there, and look
@@ -450,23 +536,24 @@ module _ (before : Stream) (moment : ℕ) (reply : Reply) (found : Asked) (live 
     turned_advances ahead few between looked out given call =
         let there = (turns_in between looked out given call).1 in
         let few_there = few_onward ahead (turn made stage seen answer).stage (turn_few ahead made stage seen answer asking.0 asking.1 few) in
-        may_advance ahead between.at between.requests between.side looked to sees none_sent few_there there.is_ready
+        may_advance ahead made between.at between.requests between.side looked to sees there.sent few_there there.is_ready
 
     -- and where it looked then
     record AnsweredIn (after : Stream) (out longer : List Command) : Type 0 where
       more : List Command
       grown : longer ≡ out ++ ((turn made stage seen answer).owed ++ more)
       owes : (view : View) → seen_of view more ≡ seen_of view (owed_in made to sees)
-      is_in : IsIn made after (passed_to to sees) (sight_past to sees)
+      is_in : IsIn made after (passed_to made to sees) (sight_past made to sees)
 
     answered_in : (after : Stream) (out longer : List Command) → Answers before after moment reply found out longer → AnsweredIn after out longer
     answered_in after out longer call =
         let (owes, there) = turns_in call.between call.looked out call.given call.turns in
-        let got = advances_to made call.between after moment call.looked call.given longer to sees none_sent (call.turns.terms ∙ is.terms) refl there.is_ready there.place call.advances in
+        let got = advances_to made call.between after moment call.looked call.given longer to sees there.sent (call.turns.terms ∙ is.terms) refl there.is_ready there.place call.advances in
+        let owed : List Command = (turn made stage seen answer).owed in
         record {
-          more = got.more;
-          grown = got.grown ∙ (ap (λ l. l ++ got.more) owes ∙ append_assoc out (turn made stage seen answer).owed got.more);
-          owes = λ view. ap (λ l. seen_of view (l ++ got.more)) (sym there.sent_none) ∙ got.owes view;
+          more = first ++ got.more;
+          grown = got.grown ∙ (ap (λ l. l ++ got.more) owes ∙ (append_assoc out (owed ++ first) got.more ∙ ap (λ l. out ++ l) (append_assoc owed first got.more)));
+          owes = λ view. ap (λ l. seen_of view (l ++ got.more)) (sym there.sent_is) ∙ got.owes view;
           is_in = got.is_in;
         }
 
@@ -481,9 +568,9 @@ module _ (before : Stream) (moment : ℕ) (reply : Reply) (found : Asked) (live 
         let later : Sight = sees made place.stage seen at.is_in in
         let got = answered_in made place.stage seen at.is_in after out longer call in
         let here = asking made place.stage seen at.is_in in
-        let stood : Standing = stands place moment prefix further in
+        let stood : Standing = stands made place moment prefix further in
         let same : sight_over stood prefix ≡ later = sight_turned sequence (is_sequence refl) made place prefix answer in
-        let within : IsWithin stood prefix = within_stood place moment prefix further (onward_from sequence (is_sequence refl) made place.stage seen answer) at.within in
+        let within : IsWithin stood prefix = within_stood made place moment prefix further (onward_from sequence (is_sequence refl) made place.stage seen answer) at.within in
         let parts : more ≡ owed ++ got.more = same_tail out more _ (sym grown ∙ got.grown) in
         record {
           ask = here.0;
@@ -510,7 +597,7 @@ module _ (before : Stream) (moment : ℕ) (reply : Reply) (found : Asked) (live 
           asked = is.asked;
           place = record {
             is_at = is.place;
-            few = sequence_few ahead made place.stage seen (sight_over (stands place moment prefix further) prefix) answer is.ask is.asked counted.few;
+            few = sequence_few ahead made place.stage seen (sight_over (stands made place moment prefix further) prefix) answer is.ask is.asked counted.few;
             small = counted.small;
           };
           gives = is.gives;
@@ -535,18 +622,18 @@ module _ (before : Stream) (moment : ℕ) (reply : Reply) (found : Asked) (live 
   pub may_turn : Somewhere before → MayTurn before moment reply found
   may_turn (made, ahead, place, prefix, at) between looked out given call = turned_advances made place.stage (sight_over place prefix) at.is_at.is_in ahead at.few between looked out given call
 
-few_at : (ahead : ℕ) (stage : Stage) (found : Asked) (terms : Terms) (seen : Sight) → asked_in terms stage seen ≡ Some found → ahead ≤ 1 → IsFew ahead stage → IsCounted 2 (place_of stage)
+few_at : (ahead : ℕ) (stage : Stage) (found : Asked) (terms : Terms) (seen : Sight) → asked_in terms stage seen ≡ Some (bare found) → ahead ≤ 1 → IsFew ahead stage → IsCounted 2 (place_of stage)
 few_at ahead (idle at) found terms seen is_asked small is = let d = is.dials in record { few = is.few; dials = omega arith }
-few_at ahead (busy at flow (request_body given)) found terms seen is_asked small is = let d = is.dials in record { few = is.few; dials = omega arith }
-few_at ahead (busy at flow connection) found terms seen is_asked small is = let d = is.dials in record { few = is.few; dials = omega arith }
+few_at ahead (busy at flow (request_body given most)) found terms seen is_asked small is = let d = is.dials in record { few = is.few; dials = omega arith }
+few_at ahead (busy at flow (connection how)) found terms seen is_asked small is = let d = is.dials in record { few = is.few; dials = omega arith }
 few_at ahead (busy at flow (response_head server how)) found terms seen is_asked small is = let d = is.dials in record { few = is.few; dials = omega arith }
 few_at ahead (busy at flow (response_body server how most)) found terms seen is_asked small is = let d = is.dials in record { few = is.few; dials = omega arith }
-few_at ahead (busy at flow (coming_down server how)) found terms seen is_asked small is = absurd (let no : None ≡ Some found = is_asked in cc)
+few_at ahead (busy at flow (coming_down server how)) found terms seen is_asked small is = absurd (let no : None ≡ Some (bare found) = is_asked in cc)
 few_at ahead (busy at flow (upgraded server)) found terms seen is_asked small is = let d = is.dials in record { few = is.few; dials = omega arith }
 few_at ahead (busy at flow given_head) found terms seen is_asked small is = let d = is.dials in record { few = is.few; dials = omega arith }
 few_at ahead (busy at flow given_body) found terms seen is_asked small is = let d = is.dials in record { few = is.few; dials = omega arith }
 few_at ahead (next at) found terms seen is_asked small is = let d = is.dials in record { few = is.few; dials = omega arith }
-few_at ahead over found terms seen is_asked small is = absurd (let no : None ≡ Some found = is_asked in cc)
+few_at ahead over found terms seen is_asked small is = absurd (let no : None ≡ Some (bare found) = is_asked in cc)
 
 -- its numbers are small where something was asked
 pub few_asked : (state : Stream) (found : Asked) → state.phase ≡ phase.Asked found → Somewhere state → IsCounted 2 state.at
@@ -557,53 +644,6 @@ few_asked state found live (made, ahead, place, prefix, stands) =
     (few_at ahead place.stage found made seen here.2.asks stands.small stands.few)
 
 -- ---- from the fields that the calls change
-
--- one look, from what it was told
-pub look_as : (terms : Terms) (at : At) (used there : Used) (moment now : ℕ) (closed shut : Bool) (looked : Wanted) (old new : State) (side later : Option Link) (out longer : List Command) (found is_now : Phase) →
-    used ≡ there → now ≡ moment → shut ≡ closed → found ≡ is_now → LookFound terms at used now shut looked old new side later out longer found →
-    LookFound terms at there moment closed looked old new side later out longer is_now
-look_as terms at used there moment now closed shut looked old new side later out longer found is_now one two three four is =
-    subst (λ u. LookFound terms at u moment closed looked old new side later out longer is_now) one
-    (subst (λ m. LookFound terms at used m closed looked old new side later out longer is_now) two
-    (subst (λ c. LookFound terms at used now c looked old new side later out longer is_now) three
-    (subst (λ p. LookFound terms at used now shut looked old new side later out longer p) four is)))
-
--- a turn: what was asked is answered, and the readers follow
-pub turns_by : {E : Type 0} (result : Result Wanted E) (before mid after : Stream) (moment now : ℕ) (reply : Reply) (found : Asked) (ready : Wanted) (used : Used) (closed dialled : Bool) (out longer : List Command) →
-    now ≡ moment → closed ≡ before.client_closed → used ≡ used_in before.side → dialled ≡ is_dial found →
-    ((seen : Sight) → Shows before.at found used closed seen → longer ≡ out ++ (asked_turn before.terms before.at found seen used closed (record { moment = now; value = reply })).owed) →
-    ((seen : Sight) → Shows before.at found used closed seen → stage_of mid.at ready ≡ sequence (asked_turn before.terms before.at found seen used closed (record { moment = now; value = reply })).stage) →
-    content_in ready ≡ [] → FirstHeld found ready →
-    IfOk result (λ leads_to. leads_to ≡ ready) → OnOk result (after.terms ≡ before.terms) → OnOk result (after.at ≡ mid.at) → OnOk result (after.client_closed ≡ before.client_closed) →
-    OnOk result (after.requests ≡ requests_behind (stage_of mid.at ready) before.requests) → OnOk result (after.side ≡ side_behind dialled (stage_of mid.at ready) before.side) →
-    IfOk result (λ leads_to. TurnsTo before after moment reply found leads_to out longer)
-turns_by (Ok there) before mid after moment now reply found ready used closed dialled out longer at_now shut uses dials gives leads content held same terms at client requests side =
-    let stage : stage_of after.at there ≡ stage_of mid.at ready = ap (λ a. stage_of a there) at ∙ ap (stage_of mid.at) same in
-    let Gives : Used → Bool → ℕ → Type 0 = λ u b m. (seen : Sight) → Shows before.at found u b seen → longer ≡ out ++ (asked_turn before.terms before.at found seen u b (record { moment = m; value = reply })).owed in
-    let Leads : Used → Bool → ℕ → Type 0 = λ u b m. (seen : Sight) → Shows before.at found u b seen →
-    stage_of mid.at ready ≡ sequence (asked_turn before.terms before.at found seen u b (record { moment = m; value = reply })).stage in
-    let given : Gives (used_in before.side) before.client_closed moment =
-    subst (λ u. Gives u before.client_closed moment) uses (subst (λ b. Gives used b moment) shut (subst (λ m. Gives used closed m) at_now gives)) in
-    let led : Leads (used_in before.side) before.client_closed moment =
-    subst (λ u. Leads u before.client_closed moment) uses (subst (λ b. Leads used b moment) shut (subst (λ m. Leads used closed m) at_now leads)) in
-    record {
-      terms = terms;
-      client = client;
-      gives = given;
-      leads = λ seen shows. stage ∙ led seen shows;
-      content = ap content_in same ∙ content;
-      held = subst (FirstHeld found) (sym same) held;
-      requests = requests ∙ ap (λ s. requests_behind s before.requests) (sym stage);
-      side = side ∙ (ap (λ d. side_behind d (stage_of mid.at ready) before.side) dials ∙ ap (λ s. side_behind (is_dial found) s before.side) (sym stage));
-    }
-turns_by (Err e) before mid after moment now reply found ready used closed dialled out longer at_now shut uses dials gives leads content held same terms at client requests side = tt
-
--- the event, from the fields that heard it
-pub heard_by : {T E : Type 0} (result : Result T E) (before : Stream) (event : Event) (requests : State) (closed : Bool) (side : Option Link) →
-    OnOk result (requests ≡ requests_take event before.requests) → OnOk result (closed ≡ closes_client event before.client_closed) → OnOk result (side ≡ side_takes event before.side) →
-    OnOk result (Hears before (record before { requests = requests; client_closed = closed; side = side }) event)
-heard_by (Ok x) before event requests closed side one two three = record { terms = refl; at = refl; client = two; requests = one; side = three }
-heard_by (Err e) before event requests closed side one two three = tt
 
 -- whatever the phase was that was taken out
 pub takes_heard : (before between : Stream) (taken : Phase) (event : Event) → Hears (record before { phase = taken }) between event → Hears before between event
@@ -619,7 +659,7 @@ advances_heard before between taken event looked may is =
 pub turn_taken : (before between : Stream) (taken : Phase) (moment : ℕ) (reply : Reply) (found : Asked) (looked : Wanted) (out longer : List Command) →
     TurnsTo (record before { phase = taken }) between moment reply found looked out longer → TurnsTo before between moment reply found looked out longer
 turn_taken before between taken moment reply found looked out longer is =
-    record { terms = is.terms; client = is.client; gives = is.gives; leads = is.leads; content = is.content; held = is.held; requests = is.requests; side = is.side }
+    record { terms = is.terms; client = is.client; gives = is.gives; leads = is.leads; content = is.content; held = is.held; up = is.up; requests = is.requests; side = is.side }
 
 pub taken_answer : (before : Stream) (taken : Phase) (between after : Stream) (moment : ℕ) (reply : Reply) (found : Asked) (looked : Wanted) (out given longer : List Command) →
     TurnsTo (record before { phase = taken }) between moment reply found looked out given → Advances between after moment looked given longer → Answers before after moment reply found out longer

@@ -72,6 +72,7 @@ behind_whole trailers message told fed closed state reads is = (
       ∙ ap (λ n. let r : Reading = record { marks = told; finish = whole trailers n } in r) (omega arith)),
   sym (drop-append_seam reads.used state.rest) ∙ ap (λ l. drop (length reads.used) l) (sym reads.bytes),
   (let e = ap length reads.bytes in let s = length-append reads.used state.rest in omega arith),
+  is,
 )
 
 module _ (old now new : State) (content said body longer after later : List ℕ) (held : CollectsHeld old content said now body longer)

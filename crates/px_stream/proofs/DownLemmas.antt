@@ -14,7 +14,7 @@ use Rattle.px_read.specs.Heads.{is_interim}
 use Rattle.px_read.specs.Items.{Body, answer_list, bad_body, body_of, complete, item_behind, part}
 use Rattle.px_read.specs.Laws.{head_in}
 use Rattle.px_read.specs.Marks.{Mark, answers, marks_of}
-use Rattle.px_read.specs.Reader.{IsNext, State, behind_marks, response, to_come}
+use Rattle.px_read.specs.Reader.{IsNext, Reads, State, behind_marks, response, to_come}
 use Rattle.px_read.specs.Readings.{behind_bytes, only, response_reading}
 use Rattle.px_read.specs.declared.head.ResponseHead.{ResponseHead as ReadResponse}
 use Rattle.px_read.specs.declared.part.Part.{Part}
@@ -31,9 +31,10 @@ use Rattle.px_chain.specs.Sights.{Sight, answers_in}
 use Rattle.px_stream.specs.declared.link.Link.{Link}
 use Rattle.px_stream.specs.Comings.{sends_text}
 use Rattle.px_stream.specs.Looks.{GaveEnd}
-use Rattle.px_stream.specs.Stands.{IsLink, ReadsDown, ReadsLink}
+use Rattle.px_stream.specs.Stands.{IsLink, IsQuiet, ReadsDown, ReadsLink}
 use Rattle.px_stream.proofs.CameLemmas.{read_as}
 use Rattle.px_stream.proofs.CameLemmas as came
+use Rattle.px_stream.proofs.QuietLemmas.{still_quiet}
 
 -- ---- what its bytes tell
 
@@ -105,7 +106,7 @@ module _ (flow : Flow) (server : ℕ) (seen : Sight) (sends : Response) (text : 
 
   -- How it stands behind one part more, where nothing was to come.
   abbrev pub DownShown : Option Progress → Link → Type 0
-  DownShown (Some progress.Missing) new = ((answers_in flow.request seen).final ≡ part reads.head (body_of (reads.marks ++ []))) × (coming_text flow seen ≡ text) × ReadsDown flow server seen (Some sends) text new
+  DownShown (Some progress.Missing) new = ((answers_in flow.request seen).final ≡ part reads.head (body_of (reads.marks ++ []))) × (coming_text flow seen ≡ text) × ReadsDown flow server seen (Some sends) text new × IsQuiet new.responses
   DownShown (Some (progress.Bad fault)) new = ((answers_in flow.request seen).final ≡ bad_body fault reads.head (body_of (reads.marks ++ []))) × (coming_text flow seen ≡ text)
   DownShown stop new = ⊥
 
@@ -113,8 +114,9 @@ module _ (flow : Flow) (server : ℕ) (seen : Sight) (sends : Response) (text : 
   none_first first all (rest, is) none some = let sizes = ap length (sym is ∙ none) in let both = length-append first rest in omega arith
 
   shown_by : (got : Part) (responses : State) → came_in flow seen ≡ None → (to_come link.responses).marks ≡ [] → IsNext got (to_come link.responses) →
-      IsLink flow.request server seen reads.sent ((answers reads.head ∷ reads.marks) ++ marks_of got) (record link { responses = responses }) → DownShown (stop_of got) (record link { responses = responses })
-  shown_by given.More responses came none next is_link = (
+      IsLink flow.request server seen reads.sent ((answers reads.head ∷ reads.marks) ++ marks_of got) (record link { responses = responses }) →
+      Reads (response asked_head) ((answers reads.head ∷ reads.marks) ++ marks_of got) reads.is_link.fed seen.shut responses → DownShown (stop_of got) (record link { responses = responses })
+  shown_by given.More responses came none next is_link further = (
     item_is asked_head server seen.server seen.shut reads.sent reads.head reads.final reads.marks link reads.is_link (only goes_on) next,
     coming_sent goes_on next refl,
     record {
@@ -126,25 +128,27 @@ module _ (flow : Flow) (server : ℕ) (seen : Sight) (sends : Response) (text : 
       final = reads.final;
       is_link = subst (λ l. IsLink flow.request server seen reads.sent (answers reads.head ∷ l) (record link { responses = responses })) (append-nil reads.marks) is_link;
     },
+    still_quiet (response asked_head) (answers reads.head ∷ reads.marks) reads.is_link.fed seen.shut link.responses responses reads.is_link.reads next further,
   )
-  shown_by (given.Bad fault) responses came none next is_link = (
+  shown_by (given.Bad fault) responses came none next is_link further = (
     item_is asked_head server seen.server seen.shut reads.sent reads.head reads.final reads.marks link reads.is_link (only (fails fault)) next,
     coming_sent (fails fault) next refl,
   )
-  shown_by (given.End trailers) responses came none (size, next) is_link =
+  shown_by (given.End trailers) responses came none (size, next) is_link further =
       never_whole came (body_of (reads.marks ++ [])) trailers (used + size)
       (item_is asked_head server seen.server seen.shut reads.sent reads.head reads.final reads.marks link reads.is_link (only (whole trailers size)) next)
-  shown_by (given.Request head) responses came none next is_link = none_first (marks_of (given.Request head)) (to_come link.responses).marks next.1 none next.0
-  shown_by (given.Response head) responses came none next is_link = none_first (marks_of (given.Response head)) (to_come link.responses).marks next.1 none next.0
-  shown_by (given.Piece bytes) responses came none next is_link = none_first (marks_of (given.Piece bytes)) (to_come link.responses).marks next.1 none next.0
-  shown_by (given.ChunkStart size) responses came none next is_link = none_first (marks_of (given.ChunkStart size)) (to_come link.responses).marks next.1 none next.0
-  shown_by given.ChunkEnd responses came none next is_link = none_first (marks_of given.ChunkEnd) (to_come link.responses).marks next.1 none next.0
+  shown_by (given.Request head) responses came none next is_link further = none_first (marks_of (given.Request head)) (to_come link.responses).marks next.1 none next.0
+  shown_by (given.Response head) responses came none next is_link further = none_first (marks_of (given.Response head)) (to_come link.responses).marks next.1 none next.0
+  shown_by (given.Piece bytes) responses came none next is_link further = none_first (marks_of (given.Piece bytes)) (to_come link.responses).marks next.1 none next.0
+  shown_by (given.ChunkStart size) responses came none next is_link further = none_first (marks_of (given.ChunkStart size)) (to_come link.responses).marks next.1 none next.0
+  shown_by given.ChunkEnd responses came none next is_link further = none_first (marks_of given.ChunkEnd) (to_come link.responses).marks next.1 none next.0
 
   pub down_shown : (stop : Option Progress) (responses : State) → came_in flow seen ≡ None → (to_come link.responses).marks ≡ [] → GaveEnd stop link.responses responses →
       DownShown stop (record link { responses = responses })
   down_shown stop responses came none ends =
       let P : Option Progress → Type 0 = λ s. DownShown s (record link { responses = responses }) in
       let keeps = reads.is_link in
+      let further = ends.gave.gives (response asked_head) (answers reads.head ∷ reads.marks) keeps.fed seen.shut keeps.reads in
       subst P (sym ends.stops)
       (shown_by ends.gave.got responses came none ends.gave.next (record {
         server = keeps.server;
@@ -152,8 +156,8 @@ module _ (flow : Flow) (server : ℕ) (seen : Sight) (sends : Response) (text : 
         closed = keeps.closed;
         fed = keeps.fed;
         passes = keeps.passes;
-        reads = ends.gave.gives (response asked_head) (answers reads.head ∷ reads.marks) keeps.fed seen.shut keeps.reads;
-      }))
+        reads = further;
+      }) further)
 
 -- ---- what is sent of a response is never empty
 

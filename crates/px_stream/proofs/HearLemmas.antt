@@ -11,6 +11,7 @@ use Rattle.px_read.specs.Items.{answer_list}
 use Rattle.px_read.specs.Marks.{Mark, asks, answers}
 use Rattle.px_read.specs.Reader.{Message, request, response, State, Reads}
 use Rattle.px_read.specs.declared.head.ResponseHead.{ResponseHead}
+use Rattle.px_message.specs.declared.flow.Flow.{Flow}
 use Rattle.px_message.specs.declared.request.Request.{Request}
 use Rattle.px_exchange.specs.Finds.{or_leaves}
 use Rattle.px_exchange.specs.Requests.{is_head}
@@ -18,10 +19,13 @@ use Rattle.px_exchange.specs.declared.terms.Terms.{Terms}
 use Rattle.px_chain.specs.Chain.{look}
 use Rattle.px_chain.specs.Sights.{Sight, sight_with}
 use Rattle.px_chain.specs.Stages.{At, Parked, Stage, busy, coming_down, connection, given_body, given_head, idle, next, over, request_body, response_body, response_head, side_in, side_of, side_parked, upgraded}
+use Rattle.px_stream.specs.declared.going.Going.{Going}
+use Rattle.px_stream.specs.declared.going.Sending.{Sending}
+use Rattle.px_stream.specs.declared.going.Sending.TheVariants as sending
 use Rattle.px_stream.specs.declared.link.Link.{Link}
 use Rattle.px_stream.specs.declared.phase.Wanted.{Wanted}
 use Rattle.px_stream.specs.Heard.{feeds, link_hears, link_closes, requests_take, side_takes, closes_client}
-use Rattle.px_stream.specs.Stands.{Passes, ReadsLink, IsLink, IsOpen, Keeps, HasRequest, HasSide, IsReady, IsPlaced, HasPlace, ReadsDown, ReadsReturn, SentOn, held_in, sent_in, content_in, parked_link, unread_link}
+use Rattle.px_stream.specs.Stands.{IsBehind, Passes, ReadsLink, IsLink, IsOpen, GoesOnUp, Keeps, HasRequest, HasSide, IsReady, IsPlaced, HasPlace, ReadsDown, ReadsGoing, ReadsReturn, SentOn, WaitsUp, going_in, held_in, sent_in, content_in, up_in, parked_link, unread_link}
 use Rattle.px_stream.proofs.ReadLemmas.{fed_on, shut_on, shuts}
 
 -- what an open side hears
@@ -218,8 +222,15 @@ shut_took state (events.Piece (Server server) bytes) = refl
 shut_took state (events.Closed side) = refl
 shut_took state (events.Answered ask reply) = refl
 
+place_took : (state : State) (event : Event) → (requests_take event state).place ≡ state.place
+place_took state events.Begun = refl
+place_took state (events.Piece Client bytes) = refl
+place_took state (events.Piece (Server server) bytes) = refl
+place_took state (events.Closed side) = refl
+place_took state (events.Answered ask reply) = refl
+
 pub keeps_took : (bytes : List ℕ) (state : State) (event : Event) → Keeps bytes state → Keeps (bytes ++ piece_of Client event) (requests_take event state)
-keeps_took bytes state event is = record { rest = rest_took state event ∙ ap (λ l. l ++ piece_of Client event) is.rest; open_still = shut_took state event ∙ is.open_still }
+keeps_took bytes state event is = record { rest = rest_took state event ∙ ap (λ l. l ++ piece_of Client event) is.rest; open_still = shut_took state event ∙ is.open_still; behind = subst IsBehind (sym (place_took state event)) is.behind }
 
 -- ---- all of it
 
@@ -234,14 +245,32 @@ module _ (made : Terms) (seen : Sight) (event : Event) (now : ℕ) (requests : S
   ended true is = let no : Ends [] ≡ NotYet = is in cc
   ended false is = let no : Ends [] ≡ NotYet = is in cc
 
-  request_on : (stage : Stage) → HasRequest stage seen (content_in looked) requests → HasRequest stage (sight_with (side_of stage) seen event now) (content_in looked) (requests_take event requests)
+  -- a request that is streamed
+  going_on : (flow : Flow) (is_sent : Option Request) (marks : List Mark) (opened : Option ℕ) → ReadsGoing flow seen is_sent marks requests →
+      ReadsGoing flow (sight_with opened seen event now) is_sent marks (requests_take event requests)
+  going_on flow is_sent marks opened is =
+      record { head = is.head; sent_as = is.sent_as; reads = requests_took (asks is.head ∷ marks) request seen.client requests event is.reads }
+
+  pub waits_on : (flow : Flow) (up : Option Going) (opened : Option ℕ) → WaitsUp made flow seen up requests → WaitsUp made flow (sight_with opened seen event now) up (requests_take event requests)
+  waits_on flow None opened is = keeps_took seen.client requests event is
+  waits_on flow (Some going) opened is =
+      record { marks = is.marks; going_on = going_on flow (Some going.sent) is.marks opened is.going_on; is_text = is.is_text }
+
+  up_on : (flow : Flow) (up : Sending) (text : List ℕ) (opened : Option ℕ) → GoesOnUp made flow seen up text requests →
+      GoesOnUp made flow (sight_with opened seen event now) up text (requests_take event requests)
+  up_on flow sending.All text opened is = keeps_took seen.client requests event is
+  up_on flow (sending.GoingUp goes) text opened is =
+      record { marks = is.marks; going_on = going_on flow (Some goes) is.marks opened is.going_on; within = is.within; is_text = is.is_text }
+
+  request_on : (stage : Stage) → HasRequest made stage seen sent.up looked requests →
+      HasRequest made stage (sight_with (side_of stage) seen event now) sent.up looked (requests_take event requests)
   request_on (idle at) is = requests_took [] request seen.client requests event is
-  request_on (busy at flow (request_body given)) is =
-      record { head = is.head; marks = is.marks; is_content = is.is_content; reads = requests_took (asks is.head ∷ is.marks) request seen.client requests event is.reads }
-  request_on (busy at flow connection) is = keeps_took seen.client requests event is
-  request_on (busy at flow (response_head server how)) is = keeps_took seen.client requests event is
-  request_on (busy at flow (response_body server how most)) is = keeps_took seen.client requests event is
-  request_on (busy at flow (coming_down server how)) is = keeps_took seen.client requests event is
+  request_on (busy at flow (request_body given most)) is =
+      record { head = is.head; marks = is.marks; is_content = is.is_content; holds = is.holds; untold = is.untold; reads = requests_took (asks is.head ∷ is.marks) request seen.client requests event is.reads }
+  request_on (busy at flow (connection how)) is = waits_on flow (going_in looked) (side_of (busy at flow (connection how))) is
+  request_on (busy at flow (response_head server how)) is = up_on flow (up_in looked) sent.up (Some server) is
+  request_on (busy at flow (response_body server how most)) is = up_on flow (up_in looked) sent.up (Some server) is
+  request_on (busy at flow (coming_down server how)) is = up_on flow (up_in looked) sent.up (Some server) is
   request_on (busy at flow (upgraded server)) is = keeps_took seen.client requests event is
   request_on (busy at flow given_head) is = keeps_took seen.client requests event is
   request_on (busy at flow given_body) is = keeps_took seen.client requests event is
@@ -250,8 +279,8 @@ module _ (made : Terms) (seen : Sight) (event : Event) (now : ℕ) (requests : S
 
   side_on : (stage : Stage) → look made stage seen ≡ NotYet → HasSide stage seen sent looked side → HasSide stage (sight_with (side_of stage) seen event now) sent looked (side_takes event side)
   side_on (idle at) waits is = parked_took at.parked seen event now side is
-  side_on (busy at flow (request_body given)) waits is = parked_took at.parked seen event now side is
-  side_on (busy at flow connection) waits is = parked_took at.parked seen event now side is
+  side_on (busy at flow (request_body given most)) waits is = parked_took at.parked seen event now side is
+  side_on (busy at flow (connection how)) waits is = parked_took at.parked seen event now side is
   side_on (busy at flow (response_head server how)) waits is =
       open_took event (IsLink flow.request server seen sent.interim []) (IsLink flow.request server (sight_with (Some server) seen event now) sent.interim [])
       (λ link has. link_on flow.request server seen event now sent.interim [] link has) side is
@@ -285,8 +314,8 @@ module _ (made : Terms) (seen : Sight) (event : Event) (now : ℕ) (requests : S
 
 -- The flow stands where it stood, if nothing was found, and its readers have heard the event.
 pub ready_on : (made : Terms) (seen : Sight) (event : Event) (now : ℕ) (stage : Stage) (at : At) (requests : State) (side : Option Link) (looked : Wanted) (sent : SentOn) →
-    look made stage seen ≡ NotYet → IsReady at requests side looked stage seen sent →
-    IsReady at (requests_take event requests) (side_takes event side) looked stage (sight_with (side_of stage) seen event now) sent
+    look made stage seen ≡ NotYet → IsReady made at requests side looked stage seen sent →
+    IsReady made at (requests_take event requests) (side_takes event side) looked stage (sight_with (side_of stage) seen event now) sent
 ready_on made seen event now stage at requests side looked sent waits is = record {
   is_stage = is.is_stage;
   request = request_on made seen event now requests side sent looked stage is.request;

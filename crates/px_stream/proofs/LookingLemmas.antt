@@ -27,10 +27,12 @@ use Rattle.px_exchange.specs.Finds.{look_head, or_leaves}
 use Rattle.px_exchange.specs.Requests.{is_http11, judged}
 use Rattle.px_chain.specs.Chain.{Connect, connect_in}
 use Rattle.px_stream.specs.declared.coming.Held.{Held}
+use Rattle.px_stream.specs.declared.going.HeldRequest.{HeldRequest}
+use Rattle.px_stream.specs.declared.going.Sending.{Sending}
 use Rattle.px_stream.specs.declared.link.Link.{Link}
 use Rattle.px_stream.specs.declared.phase.Phase.{Phase}
 use Rattle.px_stream.specs.declared.reading.FinalHead.{FinalHead}
-use Rattle.px_stream.specs.Looks.{AnswerFound, BehindJudged, BodyFound, FoundAtOnce, HeadFound, HeadRead, ReadsMore, ReturnFound, answer_gives, answer_phase, body_gives, body_phase, head_phase, returned_gives, returned_phase}
+use Rattle.px_stream.specs.Looks.{AnswerFound, BehindJudged, BodyFound, ComingFound, EndsBy, FoundAtOnce, HeadFound, HeadRead, ReadsMore, ReturnFound, UpRead, answer_gives, answer_phase, body_gives, body_phase, coming_gives, coming_phase, head_phase, returned_gives, returned_phase, unless_bad, unless_broken, unless_over}
 use Rattle.px_stream.specs.Responses.{ReadsAnswer}
 use Rattle.px_stream.specs.Stands.{StaysOpen, marks_at}
 use Rattle.px_stream.proofs.HeadLemmas.{connect_asks, connect_there, no_connect}
@@ -95,20 +97,31 @@ at_once (Err e) side state given out longer there gives phase = tt
 pub nothing_given : (side : Option Link) (state : State) (out : List Command) (there : Phase) → (side ≡ side) × FoundAtOnce state state [] out out there there
 nothing_given side state out there = (refl, record { same = refl; gives = sym (append-nil out); phase = refl })
 
-pub body_found : {E : Type 0} (result : Result Phase E) (flow : Flow) (given : Option Response) (content body : List ℕ) (old new : State) (moment : ℕ) (parked : Used) (closed : Bool) (out longer : List Command) (got : Progress) →
-    HasRead got old content new body → OnOk result (longer ≡ out ++ body_gives flow given got body moment parked closed) → IfOk result (λ next. next ≡ body_phase flow given got body moment closed) →
-    IfOk result (λ next. BodyFound flow given content old new moment parked closed out longer next)
-body_found (Ok next) flow given content body old new moment parked closed out longer got read gives phase = record { got = got; body = body; read = read; gives = gives; phase = phase }
-body_found (Err e) flow given content body old new moment parked closed out longer got read gives phase = tt
+pub body_found : {E : Type 0} (result : Result Phase E) (flow : Flow) (given : Option Response) (most : Option ℕ) (content body : List ℕ) (held : Option HeldRequest) (old new : State) (moment : ℕ) (parked : Used) (closed : Bool) (out longer : List Command) (got : Progress) →
+    HasRead got old content new body → OnOk result (longer ≡ out ++ body_gives flow given got body moment parked closed) → IfOk result (λ next. next ≡ body_phase flow given most got body held moment closed) →
+    IfOk result (λ next. BodyFound flow given most content held old new moment parked closed out longer next)
+body_found (Ok next) flow given most content body held old new moment parked closed out longer got read gives phase = record { got = got; body = body; read = read; gives = gives; phase = phase }
+body_found (Err e) flow given most content body held old new moment parked closed out longer got read gives phase = tt
 
-pub answer_found : {E : Type 0} (result : Result Phase E) (flow : Flow) (server : ℕ) (old new : Option Link) (moment : ℕ) (used : Used) (closed : Bool) (out between longer : List Command) (got : FinalHead) →
-    StaysOpen (λ link later. ReadsAnswer got (is_http11 flow.request.version) link out later between) old new → OnOk result (longer ≡ between ++ answer_gives flow got moment used closed) →
-    IfOk result (λ next. next ≡ answer_phase flow server got moment closed) → IfOk result (λ next. AnswerFound flow server old new moment used closed out longer next)
-answer_found (Ok next) flow server old new moment used closed out between longer got read gives phase = record { got = got; between = between; read = read; gives = gives; phase = phase }
-answer_found (Err e) flow server old new moment used closed out between longer got read gives phase = tt
+pub answer_found : {E : Type 0} (result : Result Phase E) (flow : Flow) (server : ℕ) (up : Sending) (bad : Option Fault) (requests later : State) (old new : Option Link) (moment : ℕ) (used : Used) (closed : Bool) (out between longer : List Command) (got : FinalHead) →
+    UpRead up bad requests later → StaysOpen (λ link later. ReadsAnswer got (is_http11 flow.request.version) link out later between) old new →
+    OnOk result (longer ≡ between ++ unless_bad bad flow moment used closed (answer_gives flow got moment used closed)) →
+    IfOk result (λ next. next ≡ unless_over bad (answer_phase flow server up got moment closed)) → IfOk result (λ next. AnswerFound flow server up requests later old new moment used closed out longer next)
+answer_found (Ok next) flow server up bad requests later old new moment used closed out between longer got up_read read gives phase =
+    record { bad = bad; up_read = up_read; got = got; between = between; read = read; gives = gives; phase = phase }
+answer_found (Err e) flow server up bad requests later old new moment used closed out between longer got up_read read gives phase = tt
 
-pub return_found : {E : Type 0} (result : Result Phase E) (flow : Flow) (server : ℕ) (most : Option ℕ) (content body : List ℕ) (held : Option Held) (old new : Option Link) (moment : ℕ) (used : Used) (closed : Bool) (out longer : List Command) (got : Progress) →
-    StaysOpen (ReadsMore got content body) old new → OnOk result (longer ≡ out ++ returned_gives flow got body moment used closed) →
-    IfOk result (λ next. next ≡ returned_phase flow server most got body held moment closed) → IfOk result (λ next. ReturnFound flow server most content held old new moment used closed out longer next)
-return_found (Ok next) flow server most content body held old new moment used closed out longer got read gives phase = record { got = got; body = body; read = read; gives = gives; phase = phase }
-return_found (Err e) flow server most content body held old new moment used closed out longer got read gives phase = tt
+pub return_found : {E : Type 0} (result : Result Phase E) (flow : Flow) (server : ℕ) (up : Sending) (most : Option ℕ) (content body : List ℕ) (held : Option Held) (bad : Option Fault) (requests later : State) (old new : Option Link) (moment : ℕ) (used : Used) (closed : Bool) (out longer : List Command) (got : Progress) →
+    UpRead up bad requests later → StaysOpen (ReadsMore got content body) old new →
+    OnOk result (longer ≡ out ++ unless_bad bad flow moment used closed (returned_gives flow got body moment used closed)) →
+    IfOk result (λ next. next ≡ unless_over bad (returned_phase flow server up most got body held moment closed)) → IfOk result (λ next. ReturnFound flow server up most content held requests later old new moment used closed out longer next)
+return_found (Ok next) flow server up most content body held bad requests later old new moment used closed out longer got up_read read gives phase =
+    record { bad = bad; up_read = up_read; got = got; body = body; read = read; gives = gives; phase = phase }
+return_found (Err e) flow server up most content body held bad requests later old new moment used closed out longer got up_read read gives phase = tt
+
+pub coming_found : {E : Type 0} (result : Result Phase E) (flow : Flow) (server : ℕ) (up : Sending) (sent : Response) (bad : Option Fault) (requests later : State) (old new : Option Link) (moment : ℕ) (used : Used) (closed : Bool) (out longer : List Command) (stop : Option Progress) →
+    UpRead up bad requests later → StaysOpen (EndsBy stop) old new → OnOk result (longer ≡ out ++ unless_broken bad flow moment used closed (coming_gives flow stop moment used closed)) →
+    IfOk result (λ next. next ≡ unless_over bad (coming_phase flow server up sent stop closed)) → IfOk result (λ next. ComingFound flow server up sent requests later old new moment used closed out longer next)
+coming_found (Ok next) flow server up sent bad requests later old new moment used closed out longer stop up_read read gives phase =
+    record { bad = bad; up_read = up_read; stop = stop; read = read; gives = gives; phase = phase }
+coming_found (Err e) flow server up sent bad requests later old new moment used closed out longer stop up_read read gives phase = tt

@@ -2,8 +2,8 @@
 use Rattle.std.proofs.Common.{◌≡◌, ℕ, ◌+◌, ◌<◌, ◌≤◌, Bool, true, false, List, [], ◌∷◌, ◌++◌, Option, Some, None, refl, ap, sym, ◌∙◌, subst, arith, option_to_list}
 use Rattle.std.specs.List.{flat_map}
 use Rattle.std.proofs.lemmas.List.{append-nil}
+use Rattle.px_message.specs.declared.fault.Fault.{Fault}
 use Rattle.px_message.specs.declared.flow.Flow.{Flow}
-use Rattle.px_message.specs.declared.response.Response.{Response}
 use Rattle.px_event.specs.declared.ask.Ask.{Ask}
 use Rattle.px_event.specs.declared.ask.Ask.TheVariants as asking
 use Rattle.px_event.specs.declared.command.Command.{Command}
@@ -25,10 +25,11 @@ use Rattle.px_exchange.specs.declared.terms.Terms.{Terms}
 use Rattle.px_exchange.specs.Endings.{ends_early}
 use Rattle.px_exchange.specs.Finds.{or_leaves}
 use Rattle.px_write.specs.Error.{fault_message}
-use Rattle.px_chain.specs.Chain.{Connect, behind, connect_in, http_chain, is_sequence, leaving, look, look_coming, pass, pass_body, passed, sequence, so_far, stands, turn}
+use Rattle.px_chain.specs.Chain.{Connect, bad_or, behind, come_down, connect_in, end_by, going_at, gone_by, http_chain, is_sequence, leaving, look, look_coming, look_up, pass, passed, past_gone, sequence, so_far, stands, turn}
+use Rattle.px_chain.specs.Going.{whole_in}
 use Rattle.px_chain.specs.Left.{behind_left, stage_left, stages_left}
 use Rattle.px_chain.specs.Sights.{Sight, Standing, answers_in, request_in, server_in, sight_over}
-use Rattle.px_chain.specs.Stages.{At, Doing, Stage, busy, coming_down, connection, given_body, given_head, idle, next, over, place_of, request_body, response_body, response_head, upgraded}
+use Rattle.px_chain.specs.Stages.{At, Doing, Sent, Stage, all_sent, busy, coming_down, connection, given_body, given_head, going_up, idle, next, over, place_of, request_body, response_body, response_head, upgraded}
 use Rattle.px_chain.proofs.LeftLemmas.{passes_left, sequence_behind}
 use Rattle.px_chain.proofs.Quiet.{AllQuiet, LooksQuiet, IsBehind, IsOf, any_flow}
 use Rattle.px_chain.proofs.QuietLemmas.{IsGoing, behind_quiet, finds_quiet_end, pass_led, pass_quiet, so_far_quiet, turn_behind, turn_quiet}
@@ -75,7 +76,7 @@ none_asked l all = asks_seen l ∙ ap (flat_map ask_atoms) (quiet_seen l all)
 
 pub asks_by : (l : Look Command) (terms : Terms) (at : At) (requests : State) (side : Option Link) (is_now : Phase) (stage : Stage) (seen : Sight) → look terms stage seen ≡ l →
     PhaseAt l terms at requests side is_now stage seen → flat_map ask_atoms (seen_of questions (found_with (behind stage seen) l)) ≡ option_to_list (awaited_in is_now)
-asks_by NotYet terms at requests side is_now stage seen is (looked, sent, same, there, gave) = ap (λ p. option_to_list (awaited_in p)) (sym same)
+asks_by NotYet terms at requests side is_now stage seen is (looked, sent, same, there, gave, rests) = ap (λ p. option_to_list (awaited_in p)) (sym same)
 asks_by (Asks ask) terms at requests side is_now stage seen is (here, same, there) =
     sym (asks_seen (ask ∷ behind stage seen))
     ∙ (ap (λ l. asks_in ask ++ l) (none_asked (behind stage seen) (behind_quiet any_flow stage seen))
@@ -93,23 +94,23 @@ any_of terms (next at) = tt
 any_of terms over = tt
 
 -- passing asks nothing
-pub pass_silent : (terms : Terms) (stage : Stage) (seen : Sight) → seen_of questions (pass stage seen).owed ≡ []
-pass_silent terms stage seen = quiet_seen (pass stage seen).owed (pass_quiet terms any_flow stage seen (any_of terms stage))
+pub pass_silent : (terms : Terms) (stage : Stage) (seen : Sight) → seen_of questions (pass terms stage seen).owed ≡ []
+pass_silent terms stage seen = quiet_seen (pass terms stage seen).owed (pass_quiet terms any_flow stage seen (any_of terms stage))
 
 -- the questions of what is owed over a prefix are those of what is found there
 pub owes_questions : (terms : Terms) (place : Standing) (prefix : List (Timed Event)) →
-    let there = passed sequence place (sight_over place prefix) in
+    let there = passed sequence terms place (sight_over place prefix) in
     seen_of questions (owed_over (http_chain sequence terms) place prefix)
     ≡ seen_of questions (found_with (behind there.stage (sight_over there prefix)) (look terms there.stage (sight_over there prefix)))
 owes_questions terms place prefix =
-    let there : Standing = passed sequence place (sight_over place prefix) in
+    let there : Standing = passed sequence terms place (sight_over place prefix) in
     let seen : Sight = sight_over there prefix in
     let found : List Command = found_with (behind there.stage seen) (look terms there.stage seen) in
-    let owed : List Command = (pass place.stage (sight_over place prefix)).owed in
-    seen_append questions owed (so_far there.stage seen ++ found)
-    ∙ (ap (λ l. l ++ seen_of questions (so_far there.stage seen ++ found)) (pass_silent terms place.stage (sight_over place prefix))
-    ∙ (seen_append questions (so_far there.stage seen) found
-    ∙ ap (λ l. l ++ seen_of questions found) (quiet_seen (so_far there.stage seen) (so_far_quiet any_flow there.stage seen))))
+    let owed : List Command = (pass terms place.stage (sight_over place prefix)).owed in
+    seen_append questions owed (so_far terms there.stage seen ++ found)
+    ∙ (ap (λ l. l ++ seen_of questions (so_far terms there.stage seen ++ found)) (pass_silent terms place.stage (sight_over place prefix))
+    ∙ (seen_append questions (so_far terms there.stage seen) found
+    ∙ ap (λ l. l ++ seen_of questions found) (quiet_seen (so_far terms there.stage seen) (so_far_quiet any_flow terms there.stage seen))))
 
 module _ (made : Terms) (after : Stream) (moment : ℕ) (more : List Command) where
   -- what is asked behind an event
@@ -117,10 +118,10 @@ module _ (made : Terms) (after : Stream) (moment : ℕ) (more : List Command) wh
       flat_map asks_in more ≡ option_to_list (awaits after)
   takes_asks event place prefix (onward is at gives) =
       let further : List (Timed Event) = prefix ++ record { moment = moment; value = event } ∷ [] in
-      let there : Standing = passed sequence place (sight_over place further) in
+      let there : Standing = passed sequence made place (sight_over place further) in
       let seen : Sight = sight_over place prefix in
       asks_seen more
-      ∙ (ap (λ l. flat_map ask_atoms (l ++ seen_of questions more)) (sym (quiet_seen (so_far place.stage seen) (so_far_quiet any_flow place.stage seen)))
+      ∙ (ap (λ l. flat_map ask_atoms (l ++ seen_of questions more)) (sym (quiet_seen (so_far made place.stage seen) (so_far_quiet any_flow made place.stage seen)))
       ∙ (ap (flat_map ask_atoms) (gives questions ∙ owes_questions made place further)
       ∙ asks_by (look made there.stage (sight_over there further)) made after.at after.requests after.side after.phase there.stage (sight_over there further) refl at.is_in.phase))
   takes_asks event place prefix (past_end owed is at gives) =
@@ -135,8 +136,8 @@ module _ (made : Terms) (after : Stream) (moment : ℕ) (more : List Command) wh
   resumes_asks reply place prefix resumes =
       let answer : Timed Reply = record { moment = moment; value = reply } in
       let turned : Turn Stage Command = turn made place.stage (sight_over place prefix) answer in
-      let further : Standing = stands place moment prefix (sequence turned.stage) in
-      let there : Standing = passed sequence further (sight_over further prefix) in
+      let further : Standing = stands made place moment prefix (sequence turned.stage) in
+      let there : Standing = passed sequence made further (sight_over further prefix) in
       asks_seen more
       ∙ (ap (flat_map ask_atoms)
       (resumes.gives questions ∙ (seen_append questions turned.owed (owed_over (http_chain sequence made) further prefix)
@@ -148,20 +149,12 @@ module _ (made : Terms) (after : Stream) (moment : ℕ) (more : List Command) wh
 -- ---- few
 
 module _ (ahead : ℕ) where
-  pass_few_by : (at : At) (flow : Flow) (given : Option Response) (item : Item ReadRequest) (moment : ℕ) → IsCounted ahead at → IsFew ahead (pass_body at flow given item moment)
-  pass_few_by at flow None item moment is = is
-  pass_few_by at flow (Some response) missing moment is = is
-  pass_few_by at flow (Some response) (part head body) moment is = is
-  pass_few_by at flow (Some response) (complete head body trailers used) moment is = let d = is.dials in record { few = is.few; dials = omega arith }
-  pass_few_by at flow (Some response) (bad_head fault) moment is = is
-  pass_few_by at flow (Some response) (bad_body fault head body) moment is = is
-
   -- where a reply or a passage leads from a flow of this number
   module _ (flow dials count : ℕ) (few : flow < 1000000) (early : 3 ≤ count → dials ≤ flow + ahead) (late : dials ≤ flow + (ahead + 1)) where
     few_behind : (stage : Stage) → IsBehind flow dials count stage → IsFew ahead stage
     few_behind (idle at) is = absurd is
-    few_behind (busy at told (request_body given)) ((same, most), more) = let l = early (omega arith) in record { few = omega arith; dials = omega arith }
-    few_behind (busy at told connection) ((same, most), more) = let l = early (omega arith) in record { few = omega arith; dials = omega arith }
+    few_behind (busy at told (request_body given size)) ((same, most), more) = let l = early (omega arith) in record { few = omega arith; dials = omega arith }
+    few_behind (busy at told (connection how)) ((same, most), more) = let l = early (omega arith) in record { few = omega arith; dials = omega arith }
     few_behind (busy at told (response_head side how)) ((same, most), more) = let l = early (omega arith) in record { few = omega arith; dials = omega arith }
     few_behind (busy at told (response_body side how size)) ((same, most), more) = record { few = omega arith; dials = omega arith }
     few_behind (busy at told (coming_down side how)) ((same, most), more) = record { few = omega arith; dials = omega arith }
@@ -177,8 +170,8 @@ module _ (ahead : ℕ) where
   -- the stage behind a reply is one of a few flows too
   few_turn : (stage there : Stage) → IsGoing stage → IsFew ahead stage → IsBehind (place_of stage).flow (place_of stage).dials (stage_left stage) there → IsFew ahead there
   few_turn (idle at) there goes is behind = let f = is.few in let d = is.dials in few_behind at.flow at.dials 5 f (λ _. d) (omega arith) there behind
-  few_turn (busy at flow (request_body given)) there goes is behind = let f = is.few in let d = is.dials in few_behind at.flow at.dials 4 f (λ _. d) (omega arith) there behind
-  few_turn (busy at flow connection) there goes is behind = let f = is.few in let d = is.dials in few_behind at.flow at.dials 3 f (λ _. d) (omega arith) there behind
+  few_turn (busy at flow (request_body given most)) there goes is behind = let f = is.few in let d = is.dials in few_behind at.flow at.dials 4 f (λ _. d) (omega arith) there behind
+  few_turn (busy at flow (connection how)) there goes is behind = let f = is.few in let d = is.dials in few_behind at.flow at.dials 3 f (λ _. d) (omega arith) there behind
   few_turn (busy at flow (response_head server how)) there goes is behind = few_behind at.flow at.dials 2 is.few (λ (no : 3 ≤ 2). absurd (omega arith)) is.dials there behind
   few_turn (busy at flow (response_body side how size)) there goes is behind = few_behind at.flow at.dials 1 is.few (λ (no : 3 ≤ 1). absurd (omega arith)) is.dials there behind
   few_turn (busy at flow (coming_down side how)) there goes is behind = few_behind at.flow at.dials 0 is.few (λ (no : 3 ≤ 0). absurd (omega arith)) is.dials there behind
@@ -196,25 +189,35 @@ module _ (ahead : ℕ) where
   few_onward over is = is
 
 module _ (ahead : ℕ) (terms : Terms) where
+  -- a request that goes up to its server is whole, or not
+  head_few : (at : At) (flow : Flow) (server : ℕ) (how : Sent) (whole : Option ℕ) (seen : Sight) → IsCounted (ahead + 1) at →
+      IsFew ahead (come_down terms (end_by (gone_by (going_at (response_head server how)) whole) terms.place at flow (response_head server how) seen).stage
+      (past_gone (gone_by (going_at (response_head server how)) whole) seen)).stage
+  head_few at flow server all_sent whole seen is = is
+  head_few at flow server going_up None seen is = is
+  head_few at flow server going_up (Some size) seen is = is
+
   -- passing stays with the flow, or ends it
-  pass_flow : (at : At) (flow : Flow) (doing : Doing) (seen : Sight) → IsFew ahead (busy at flow doing) → IsFew ahead (pass (busy at flow doing) seen).stage
-  pass_flow at flow (request_body given) seen is = pass_few_by ahead at flow given (request_in seen) seen.now is
-  pass_flow at flow connection seen is = is
-  pass_flow at flow (response_head server how) seen is = is
+  pass_flow : (at : At) (flow : Flow) (doing : Doing) (seen : Sight) → IsFew ahead (busy at flow doing) → IsFew ahead (pass terms (busy at flow doing) seen).stage
+  pass_flow at flow (request_body given most) seen is =
+      let d = is.dials in few_behind ahead at.flow at.dials 5 is.few (λ _. d) (omega arith) (pass terms (busy at flow (request_body given most)) seen).stage
+      (pass_led terms any_flow at flow (request_body given most) seen tt).behind
+  pass_flow at flow (connection how) seen is = is
+  pass_flow at flow (response_head server how) seen is = head_few at flow server how (whole_in seen) seen is
   pass_flow at flow (response_body server how most) seen is =
-      few_behind ahead at.flow at.dials 2 is.few (λ (no : 3 ≤ 2). absurd (omega arith)) is.dials (pass (busy at flow (response_body server how most)) seen).stage
+      few_behind ahead at.flow at.dials 2 is.few (λ (no : 3 ≤ 2). absurd (omega arith)) is.dials (pass terms (busy at flow (response_body server how most)) seen).stage
       (pass_led terms any_flow at flow (response_body server how most) seen tt).behind
   pass_flow at flow (coming_down server how) seen is =
-      few_behind ahead at.flow at.dials 1 is.few (λ (no : 3 ≤ 1). absurd (omega arith)) is.dials (pass (busy at flow (coming_down server how)) seen).stage
+      few_behind ahead at.flow at.dials 1 is.few (λ (no : 3 ≤ 1). absurd (omega arith)) is.dials (pass terms (busy at flow (coming_down server how)) seen).stage
       (pass_led terms any_flow at flow (coming_down server how) seen tt).behind
   pass_flow at flow (upgraded server) seen is = is
   pass_flow at flow given_head seen is = is
   pass_flow at flow given_body seen is = is
 
   -- where it passes, it stays with the flow or the next one begins
-  pub pass_few : (stage : Stage) (seen : Sight) → IsFew ahead stage → IsFew ahead (sequence (pass stage seen).stage)
+  pub pass_few : (stage : Stage) (seen : Sight) → IsFew ahead stage → IsFew ahead (sequence (pass terms stage seen).stage)
   pass_few (idle at) seen is = is
-  pass_few (busy at flow doing) seen is = few_onward ahead (pass (busy at flow doing) seen).stage (pass_flow at flow doing seen is)
+  pass_few (busy at flow doing) seen is = few_onward ahead (pass terms (busy at flow doing) seen).stage (pass_flow at flow doing seen is)
   pass_few (next at) seen is = is
   pass_few over seen is = is
 
@@ -237,7 +240,7 @@ module _ (ahead : ℕ) (terms : Terms) where
 
   -- and so does the next flow, also where it passes
   pub sequence_few : (stage : Stage) (seen later : Sight) (answer : Timed Reply) (ask : Command) → look terms stage seen ≡ Asks ask → IsFew ahead stage →
-      IsFew ahead (sequence (pass (sequence (turn terms stage seen answer).stage) later).stage)
+      IsFew ahead (sequence (pass terms (sequence (turn terms stage seen answer).stage) later).stage)
   sequence_few stage seen later answer ask is few =
       pass_few ahead terms (sequence (turn terms stage seen answer).stage) later (few_onward ahead (turn terms stage seen answer).stage (turn_few stage seen answer ask is few))
 
@@ -250,11 +253,11 @@ never_waits false is = let no : Ends [] ≡ NotYet = is in cc
 -- while something is looked for
 ready_left : (terms : Terms) (at : At) (looked : Wanted) (seen : Sight) → look terms (stage_of at looked) seen ≡ NotYet → left_by at (phase.Ready looked) ≡ stages_left (stage_of at looked)
 ready_left terms at ready.Idle seen waits = refl
-ready_left terms at (ready.RequestBody flow given body) seen waits = refl
-ready_left terms at (ready.Connection flow) seen waits = refl
-ready_left terms at (ready.ResponseHead flow server) seen waits = refl
-ready_left terms at (ready.ResponseBody flow server most body held) seen waits = refl
-ready_left terms at (ready.ComingDown flow server sent) seen waits = refl
+ready_left terms at (ready.RequestBody flow given most body held) seen waits = refl
+ready_left terms at (ready.Connection flow up) seen waits = refl
+ready_left terms at (ready.ResponseHead flow server up) seen waits = refl
+ready_left terms at (ready.ResponseBody flow server up most body held) seen waits = refl
+ready_left terms at (ready.ComingDown flow server up sent) seen waits = refl
 ready_left terms at (ready.Upgraded flow server) seen waits = absurd (never_waits seen.closed waits)
 ready_left terms at (ready.GivenHead flow) seen waits = refl
 ready_left terms at (ready.GivenBody flow) seen waits = refl
@@ -267,8 +270,8 @@ none_at None at seen requests last is = ap (λ l. left_by at (phase.Ready l)) is
 none_at (Some connects) at seen requests last is = ap (λ l. left_by at (phase.Ready l)) is.phase
 
 none_for : (flow : Flow) (doing : Doing) (at : At) (seen : Sight) (requests : State) (side : Option Link) (last : Wanted) → IsLastFor flow doing seen requests side last → left_by at (phase.Ready last) ≡ 0
-none_for flow (request_body given) at seen requests side last is = ap (λ l. left_by at (phase.Ready l)) is
-none_for flow connection at seen requests side last is = ap (λ l. left_by at (phase.Ready l)) is
+none_for flow (request_body given most) at seen requests side last is = ap (λ l. left_by at (phase.Ready l)) is
+none_for flow (connection how) at seen requests side last is = ap (λ l. left_by at (phase.Ready l)) is
 none_for flow (response_head server how) at seen requests side last is = ap (λ l. left_by at (phase.Ready l)) is
 none_for flow (response_body server how most) at seen requests side last is = ap (λ l. left_by at (phase.Ready l)) is
 none_for flow (coming_down server how) at seen requests side last is = ap (λ l. left_by at (phase.Ready l)) is
@@ -295,14 +298,29 @@ coming_asks true leaves flow (bad_head fault) moment used ask is = let no : Ends
 coming_asks false leaves flow (bad_head fault) moment used ask is = let no : NotYet ≡ Asks ask = is in cc
 coming_asks closed leaves flow (bad_body fault head body) moment used ask is = let no : Ends (ends_early flow (fault_message fault) moment used closed) ≡ Asks ask = is in cc
 
+-- nor of its request, which goes up
+bad_asks : (closed : Bool) (leaves : List Command) (item : Item ReadRequest) (ends : Fault → List Command) (l : Look Command) (ask : Command) →
+    (or_leaves closed leaves l ≡ Asks ask → ⊥) → or_leaves closed leaves (bad_or item ends l) ≡ Asks ask → ⊥
+bad_asks closed leaves missing ends l ask none is = none is
+bad_asks closed leaves (part head body) ends l ask none is = none is
+bad_asks closed leaves (complete head body trailers size) ends l ask none is = none is
+bad_asks closed leaves (bad_head fault) ends l ask none is = none is
+bad_asks closed leaves (bad_body fault head body) ends l ask none is = let no : Ends (ends fault) ≡ Asks ask = is in cc
+
+up_asks : (how : Sent) (closed : Bool) (leaves : List Command) (seen : Sight) (ends : Fault → List Command) (l : Look Command) (ask : Command) →
+    (or_leaves closed leaves l ≡ Asks ask → ⊥) → or_leaves closed leaves (look_up how seen ends l) ≡ Asks ask → ⊥
+up_asks all_sent closed leaves seen ends l ask none is = none is
+up_asks going_up closed leaves seen ends l ask none is = bad_asks closed leaves (request_in seen) ends l ask none is
+
 some_left : (terms : Terms) (stage : Stage) (seen : Sight) (ask : Command) → look terms stage seen ≡ Asks ask → 0 < stage_left stage
 some_left terms (idle at) seen ask is = omega arith
-some_left terms (busy at flow (request_body given)) seen ask is = omega arith
-some_left terms (busy at flow connection) seen ask is = omega arith
+some_left terms (busy at flow (request_body given most)) seen ask is = omega arith
+some_left terms (busy at flow (connection how)) seen ask is = omega arith
 some_left terms (busy at flow (response_head side how)) seen ask is = omega arith
 some_left terms (busy at flow (response_body side how size)) seen ask is = omega arith
 some_left terms (busy at flow (coming_down side how)) seen ask is =
-    absurd (coming_asks seen.closed (leaving (busy at flow (coming_down side how)) seen) flow (answers_in flow.request seen).final seen.now (server_in side seen) ask is)
+    let leaves : List Command = leaving (busy at flow (coming_down side how)) seen in
+    absurd (up_asks how seen.closed leaves seen _ _ ask (coming_asks seen.closed leaves flow (answers_in flow.request seen).final seen.now (server_in side seen) ask) is)
 some_left terms (busy at flow (upgraded side)) seen ask is = absurd (ends_go seen.closed ask is)
 some_left terms (busy at flow given_head) seen ask is = omega arith
 some_left terms (busy at flow given_body) seen ask is = omega arith
@@ -323,7 +341,7 @@ place_there terms (next here) seen ask at closed is place = place.is_here
 place_there terms over seen ask at closed is place = absurd (ends_go seen.closed ask is)
 
 -- Where it passes it can ask no more, also where the next flow begins.
-pub pass_stages : (terms : Terms) (stage : Stage) (seen : Sight) → IsGoing stage → stages_left (sequence (pass stage seen).stage) ≤ stages_left stage
+pub pass_stages : (terms : Terms) (stage : Stage) (seen : Sight) → IsGoing stage → stages_left (sequence (pass terms stage seen).stage) ≤ stages_left stage
 pass_stages terms (idle at) seen goes = omega arith
 pass_stages terms (busy at flow doing) seen goes = passes_left terms at flow doing seen sequence (is_sequence refl)
 pass_stages terms (next at) seen goes = absurd goes
@@ -350,7 +368,7 @@ module _ (made : Terms) (state : Stream) (stage : Stage) (seen : Sight) (there :
   -- while it waits or asks, as many are left as the stage has
   pub left_waits : look made stage seen ≡ NotYet → sequence_left state ≡ stages_left stage
   left_waits is =
-      let (looked, sent, same, ready, gave) = subst Found is there.phase in
+      let (looked, sent, same, ready, gave, rests) = subst Found is there.phase in
       ap (left_by state.at) same ∙ (ready_left made state.at looked seen (ap (λ s. look made s seen) ready.is_stage ∙ is) ∙ ap stages_left ready.is_stage)
 
   pub left_asks : (ask : Command) → look made stage seen ≡ Asks ask → sequence_left state ≡ stages_left stage
@@ -377,7 +395,7 @@ pub takes_left : (made : Terms) (before after : Stream) (moment : ℕ) (event : 
     Takes (http_chain sequence made) (IsAt made) after moment event more place prefix → sequence_left after ≤ sequence_left before
 takes_left made before after moment event more place prefix at (onward is later gives) =
     let further : List (Timed Event) = prefix ++ record { moment = moment; value = event } ∷ [] in
-    let there : Standing = passed sequence place (sight_over place further) in
+    let there : Standing = passed sequence made place (sight_over place further) in
     let same = left_waits made before place.stage (sight_over place prefix) at.is_in is in
     let most = at_most made after there.stage (sight_over there further) later.is_in in
     let on = pass_stages made place.stage (sight_over place further) (waits_going made place.stage (sight_over place prefix) is) in
@@ -399,8 +417,8 @@ resumes_left made before after moment reply more place prefix at resumes =
     let seen : Sight = sight_over place prefix in
     let answer : Timed Reply = record { moment = moment; value = reply } in
     let led : Stage = sequence (turn made place.stage seen answer).stage in
-    let further : Standing = stands place moment prefix led in
-    let there : Standing = passed sequence further (sight_over further prefix) in
+    let further : Standing = stands made place moment prefix led in
+    let there : Standing = passed sequence made further (sight_over further prefix) in
     let same = left_asks made before place.stage seen at.is_in resumes.ask resumes.asked in
     let most = at_most made after there.stage (sight_over there prefix) resumes.place.is_in in
     let on = pass_stages made led (sight_over further prefix) (sequence_goes (turn made place.stage seen answer).stage) in

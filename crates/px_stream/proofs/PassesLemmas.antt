@@ -1,5 +1,5 @@
 -- Where a body is read that may be streamed, or is, the machine passes as the chain does.
-use Rattle.std.proofs.Common.{◌≡◌, ℕ, ◌+◌, Bool, true, false, List, [], ◌∷◌, ◌++◌, length, Option, Some, None, refl, ap, sym, ◌∙◌, subst, arith, append_assoc}
+use Rattle.std.proofs.Common.{◌≡◌, ℕ, ◌+◌, Bool, true, false, ◌&&◌, List, [], ◌∷◌, ◌++◌, length, Option, Some, None, refl, ap, sym, ◌∙◌, subst, arith, append_assoc}
 use Rattle.std.proofs.lemmas.Grind.{flat_map-append}
 use Rattle.std.proofs.lemmas.List.{append-nil}
 use Rattle.px_message.specs.Length.{has_no_body}
@@ -21,29 +21,38 @@ use Rattle.px_read.specs.Reader.{Message, Reads, State, before_all, reading_from
 use Rattle.px_read.specs.declared.head.ResponseHead.{ResponseHead as ReadResponse}
 use Rattle.px_write.specs.Text.{response_head_text}
 use Rattle.px_exchange.specs.Bodies.{HasCome, content_of}
-use Rattle.px_exchange.specs.Endings.{finished_streamed, goes_on_behind, shut_unless}
+use Rattle.px_exchange.specs.Endings.{finished_streamed, shut_unless}
 use Rattle.px_exchange.specs.Flows.{response_of}
 use Rattle.px_exchange.specs.Requests.{is_head}
 use Rattle.px_exchange.specs.declared.body.Progress.{Progress}
 use Rattle.px_exchange.specs.declared.body.Progress.TheVariants as progress
 use Rattle.px_exchange.specs.declared.ending.Used.{Used}
+use Rattle.px_exchange.specs.declared.place.Place.{Place}
+use Rattle.px_exchange.specs.declared.terms.Terms.{Terms}
 use Rattle.px_exchange.specs.declared.ending.Used.TheVariants.{NoServer}
 use Rattle.px_parts.proofs.TextLemmas.{marks_both}
 use Rattle.px_parts.specs.Texts.{final_so_far, last_text, marks_text}
 use Rattle.px_chain.proofs.ComingLaws.{in_two}
-use Rattle.px_chain.specs.Chain.{behind_flow, pass, pass_came, pass_kept, past_came, past_kept, sequence, sight_past}
+use Rattle.px_chain.specs.Chain.{behind_flow, come_down, going_at, gone_by, pass_came, pass_down, pass_kept, past_came, past_kept, sequence, sight_come}
 use Rattle.px_chain.specs.Coming.{Came, as_streamed, came_by, came_in, coming_by, coming_text, framed_as, streaming, streams_in}
 use Rattle.px_chain.specs.Sights.{Sight, answers_in, server_in}
-use Rattle.px_chain.specs.Stages.{At, Stage, all_sent, busy, coming_down, idle, over, response_body, unparked}
+use Rattle.px_chain.specs.Going.{is_sent, sends_up, whole_in}
+use Rattle.px_chain.specs.Stages.{At, Sent, Stage, busy, coming_down, idle, over, response_body, unparked}
 use Rattle.px_stream.specs.declared.coming.Held.{Held}
+use Rattle.px_stream.specs.declared.going.Sending.{Sending}
+use Rattle.px_stream.specs.declared.going.Sending.TheVariants as sending
 use Rattle.px_stream.specs.declared.link.Link.{Link}
 use Rattle.px_stream.specs.declared.phase.Wanted.{Wanted}
 use Rattle.px_stream.specs.declared.phase.Wanted.TheVariants as ready
 use Rattle.px_stream.specs.Comings.{framed_by, sends_text}
-use Rattle.px_stream.specs.Passes.{DownPassed, HasNoMore, HeldPassed, HeldWent, IsPassed, Passed, PassedTo, SaysMore, WentDown, ended_gives, ended_leads, is_passing, streams_by}
-use Rattle.px_stream.specs.Stands.{HasPlace, HasRequest, HasSide, IsLink, IsOpen, IsReady, Keeps, ReadsDown, ReadsLink, ReadsReturn, SentOn, content_in, none_sent, sent_on, stage_of, used_in}
+use Rattle.px_stream.specs.Goings.{sends_while, sent_of}
+use Rattle.px_stream.specs.GoingUp.{HasNoMoreUp, IsGone, NoMoreUp}
+use Rattle.px_stream.specs.Passes.{CameTo, DownPassed, HasNoMore, HeldPassed, HeldWent, IsPassed, Passed, SaysMore, WentDown, ended_gives, ended_leads, is_passing, stays_behind, streams_by}
+use Rattle.px_stream.specs.Stands.{GoesOnUp, HasPlace, HasRequest, HasSide, IsLink, IsOpen, IsReady, Keeps, ReadsDown, ReadsLink, ReadsReturn, SentOn, none_sent, sent_on, stage_of, used_in}
 use Rattle.px_stream.specs.Turns.{requests_behind, side_behind}
 use Rattle.px_stream.proofs.CameLemmas.{finish_of, head_is, item_is, judged, none_left, read_as, streams_has_body, text_is}
+use Rattle.px_stream.proofs.UpViewLemmas.{server_atoms, to_seen}
+use Rattle.px_stream.proofs.WentUpLemmas.{all_sent_of}
 
 -- ---- texts, as the views see them
 
@@ -85,40 +94,40 @@ begins_here message bytes = record {
       ap (λ f. read_as r.marks f) (no_bytes_by r.finish);
 }
 
--- nothing is read there of a response
-none_idle : (at there : At) (next : Wanted) (side : Option Link) → stage_of at next ≡ idle there → HasNoMore next side
-none_idle at there ready.Idle side is = tt
-none_idle at there (ready.RequestBody flow given body) side is = tt
-none_idle at there (ready.Connection flow) side is = tt
-none_idle at there (ready.ResponseHead flow server) side is = tt
-none_idle at there (ready.ResponseBody flow server most body held) side is = absurd (let no : stage_of at (ready.ResponseBody flow server most body held) ≡ idle there = is in cc)
-none_idle at there (ready.ComingDown flow server sent) side is = absurd (let no : stage_of at (ready.ComingDown flow server sent) ≡ idle there = is in cc)
-none_idle at there (ready.Upgraded flow server) side is = tt
-none_idle at there (ready.GivenHead flow) side is = tt
-none_idle at there (ready.GivenBody flow) side is = tt
-none_idle at there (ready.Connects address) side is = tt
-none_idle at there ready.Over side is = tt
+-- nothing is read there of a message
+none_idle : (at there : At) (next : Wanted) (requests : State) (side : Option Link) → stage_of at next ≡ idle there → HasNoMore next requests side
+none_idle at there ready.Idle requests side is = record { up = tt; down = tt }
+none_idle at there (ready.RequestBody flow given most body held) requests side is = absurd (let no : stage_of at (ready.RequestBody flow given most body held) ≡ idle there = is in cc)
+none_idle at there (ready.Connection flow up) requests side is = record { up = tt; down = tt }
+none_idle at there (ready.ResponseHead flow server up) requests side is = absurd (let no : stage_of at (ready.ResponseHead flow server up) ≡ idle there = is in cc)
+none_idle at there (ready.ResponseBody flow server up most body held) requests side is = absurd (let no : stage_of at (ready.ResponseBody flow server up most body held) ≡ idle there = is in cc)
+none_idle at there (ready.ComingDown flow server up sent) requests side is = absurd (let no : stage_of at (ready.ComingDown flow server up sent) ≡ idle there = is in cc)
+none_idle at there (ready.Upgraded flow server) requests side is = record { up = tt; down = tt }
+none_idle at there (ready.GivenHead flow) requests side is = record { up = tt; down = tt }
+none_idle at there (ready.GivenBody flow) requests side is = record { up = tt; down = tt }
+none_idle at there (ready.Connects address) requests side is = record { up = tt; down = tt }
+none_idle at there ready.Over requests side is = record { up = tt; down = tt }
 
-none_over : (at : At) (next : Wanted) (side : Option Link) → stage_of at next ≡ over → HasNoMore next side
-none_over at ready.Idle side is = tt
-none_over at (ready.RequestBody flow given body) side is = tt
-none_over at (ready.Connection flow) side is = tt
-none_over at (ready.ResponseHead flow server) side is = tt
-none_over at (ready.ResponseBody flow server most body held) side is = absurd (let no : stage_of at (ready.ResponseBody flow server most body held) ≡ over = is in cc)
-none_over at (ready.ComingDown flow server sent) side is = absurd (let no : stage_of at (ready.ComingDown flow server sent) ≡ over = is in cc)
-none_over at (ready.Upgraded flow server) side is = tt
-none_over at (ready.GivenHead flow) side is = tt
-none_over at (ready.GivenBody flow) side is = tt
-none_over at (ready.Connects address) side is = tt
-none_over at ready.Over side is = tt
+none_over : (at : At) (next : Wanted) (requests : State) (side : Option Link) → stage_of at next ≡ over → HasNoMore next requests side
+none_over at ready.Idle requests side is = record { up = tt; down = tt }
+none_over at (ready.RequestBody flow given most body held) requests side is = absurd (let no : stage_of at (ready.RequestBody flow given most body held) ≡ over = is in cc)
+none_over at (ready.Connection flow up) requests side is = record { up = tt; down = tt }
+none_over at (ready.ResponseHead flow server up) requests side is = absurd (let no : stage_of at (ready.ResponseHead flow server up) ≡ over = is in cc)
+none_over at (ready.ResponseBody flow server up most body held) requests side is = absurd (let no : stage_of at (ready.ResponseBody flow server up most body held) ≡ over = is in cc)
+none_over at (ready.ComingDown flow server up sent) requests side is = absurd (let no : stage_of at (ready.ComingDown flow server up sent) ≡ over = is in cc)
+none_over at (ready.Upgraded flow server) requests side is = record { up = tt; down = tt }
+none_over at (ready.GivenHead flow) requests side is = record { up = tt; down = tt }
+none_over at (ready.GivenBody flow) requests side is = record { up = tt; down = tt }
+none_over at (ready.Connects address) requests side is = record { up = tt; down = tt }
+none_over at ready.Over requests side is = record { up = tt; down = tt }
 
-none_behind : (stays : Bool) (there at : At) (next : Wanted) (side : Option Link) → stage_of at next ≡ sequence (behind_flow stays there) → HasNoMore next side
-none_behind true there at next side is = none_idle at (record there { flow = there.flow + 1 }) next side is
-none_behind false there at next side is = none_over at next side is
+none_behind : (stays : Bool) (there at : At) (next : Wanted) (requests : State) (side : Option Link) → stage_of at next ≡ sequence (behind_flow stays there) → HasNoMore next requests side
+none_behind true there at next requests side is = none_idle at (record there { flow = there.flow + 1 }) next requests side is
+none_behind false there at next requests side is = none_over at next requests side is
 
-passed_behind : (stays : Bool) (there : At) (past : Sight) → IsPassed (sequence (behind_flow stays there)) past
-passed_behind true there past = tt
-passed_behind false there past = tt
+passed_behind : (place : Place) (stays : Bool) (there : At) (past : Sight) → IsPassed place (sequence (behind_flow stays there)) past
+passed_behind place true there past = record { gone = tt; come = tt }
+passed_behind place false there past = record { gone = tt; come = tt }
 
 sent_behind : (stays : Bool) (there : At) → sent_on (sequence (behind_flow stays there)) none_sent ≡ []
 sent_behind true there = refl
@@ -127,18 +136,18 @@ sent_behind false there = refl
 -- ---- from what is passed to
 
 -- passing owes this and leads there, and this is left of the sight
-pub record GoesTo (turn : Turn Stage Command) (past : Sight) (at : At) (requests : State) (side : Option Link) (looked : Wanted) (before out longer : List Command) : Type 0 where
+pub record GoesTo (terms : Terms) (turn : Turn Stage Command) (past : Sight) (at : At) (requests : State) (side : Option Link) (looked : Wanted) (before out longer : List Command) : Type 0 where
   pub sent : SentOn
   pub more : List Command
   pub grown : longer ≡ out ++ more
   pub owes : (view : View) → seen_of view (before ++ more) ≡ seen_of view (turn.owed ++ sent_on (sequence turn.stage) sent)
-  pub is_ready : IsReady at requests side looked (sequence turn.stage) past sent
-  pub is_passed : IsPassed (sequence turn.stage) past
-  pub no_more : HasNoMore looked side
+  pub is_ready : IsReady terms at requests side looked (sequence turn.stage) past sent
+  pub is_passed : IsPassed terms.place (sequence turn.stage) past
+  pub no_more : HasNoMore looked requests side
 
-goes_to_there : (stage : Stage) (seen : Sight) (at : At) (requests : State) (side : Option Link) (looked : Wanted) (before out longer : List Command) →
-    GoesTo (pass stage seen) (sight_past stage seen) at requests side looked before out longer → PassedTo stage seen at requests side looked before out longer
-goes_to_there stage seen at requests side looked before out longer goes = record {
+goes_to_there : (terms : Terms) (stage : Stage) (seen : Sight) (at : At) (requests : State) (side : Option Link) (looked : Wanted) (before out longer : List Command) →
+    GoesTo terms (come_down terms stage seen) (sight_come stage seen) at requests side looked before out longer → CameTo terms stage seen at requests side looked before out longer
+goes_to_there terms stage seen at requests side looked before out longer goes = record {
   sent = goes.sent;
   more = goes.more;
   grown = goes.grown;
@@ -179,31 +188,70 @@ given_has_body flow (Some own) answer read most heard is streams =
     subst (λ (r : Response). has_no_body r.status (is_head flow.request.method) ≡ false) (some_same (record own { streamed = true }) answer is)
     (streams_has_body (is_head flow.request.method) read own most heard streams)
 
--- One passage of the machine, whose client's reader keeps what is seen of it.
-module _ (at new : At) (seen : Sight) (old : State) (next : Wanted) (out longer : List Command) (keeps : Keeps seen.client old) where
+both_first : (a b : Bool) → (a && b) ≡ true → a ≡ true
+both_first true b is = refl
+both_first false b is = is
+
+-- How the request stands meanwhile, in a flow: it goes up on, and all that came of it was sent, which was this behind what earlier asks owed; or it is whole.
+pub record Beside (terms : Terms) (flow : Flow) (seen : Sight) (up : Sending) (was_up : List ℕ) (old : State) : Type 0 where
+  pub reads : GoesOnUp terms flow seen up was_up old
+  pub none_up : NoMoreUp up old
+  pub gone : (server : ℕ) → gone_by (going_at (coming_down server (sent_of up))) (whole_in seen) ≡ None
+
+-- what follows a whole request waits
+keeps_all : (terms : Terms) (flow : Flow) (seen : Sight) (up : Sending) (was_up : List ℕ) (old : State) → is_sent (sent_of up) ≡ true → GoesOnUp terms flow seen up was_up old → Keeps seen.client old
+keeps_all terms flow seen sending.All was_up old all reads = reads
+keeps_all terms flow seen (sending.GoingUp goes) was_up old all reads = absurd (let no : false ≡ true = all in cc)
+
+-- what was sent of one that goes up is what is owed of it
+up_owed : (terms : Terms) (flow : Flow) (server : ℕ) (seen : Sight) (up : Sending) (was_up : List ℕ) (old : State) → Beside terms flow seen up was_up old → (view : View) →
+    seen_of view (sends_while (sent_of up) server was_up) ≡ seen_of view (sends_up terms.place flow server (sent_of up) seen)
+up_owed terms flow server seen sending.All was_up old beside view = refl
+up_owed terms flow server seen (sending.GoingUp goes) was_up old beside view =
+    to_seen view server was_up ∙ (sym (append-nil (server_atoms view server was_up)) ∙ ap (λ l. seen_of view (commands.Send (Server server) l ∷ [])) (all_sent_of terms flow server seen goes was_up old beside.reads beside.none_up (beside.gone server)))
+
+-- a flow that says that its response is streamed has the same request
+streaming_beside : (terms : Terms) (flow : Flow) (seen : Sight) (up : Sending) (was_up : List ℕ) (old : State) → Beside terms flow seen up was_up old → Beside terms (streaming flow) seen up was_up old
+streaming_beside terms flow seen sending.All was_up old beside = record { reads = beside.reads; none_up = beside.none_up; gone = beside.gone }
+streaming_beside terms flow seen (sending.GoingUp goes) was_up old beside =
+    let on = beside.reads.going_on in record {
+      reads = record { marks = beside.reads.marks; going_on = record { head = on.head; sent_as = on.sent_as; reads = on.reads }; within = beside.reads.within; is_text = beside.reads.is_text };
+      none_up = beside.none_up;
+      gone = beside.gone;
+    }
+
+-- One passage of the machine, beside a request that stands so.
+module _ (terms : Terms) (at new : At) (seen : Sight) (old : State) (next : Wanted) (out longer : List Command) (up : Sending) (was_up : List ℕ) where
   -- with the side that is open behind it, and what was sent before
   abbrev Goes : Turn Stage Command → Sight → At → Wanted → Link → List Command → Type 0
   Goes turn past there looked further before =
-      GoesTo turn past there (requests_behind (stage_of there looked) old) (side_behind false (stage_of there looked) (Some further)) looked before out longer
+      GoesTo terms turn past there (requests_behind (stage_of there looked) old) (side_behind false (stage_of there looked) (Some further)) looked before out longer
 
   -- a finished flow leads to a head of a request of which nothing was read, or to the end
-  ready_behind : (stays : Bool) (further : Link) → stage_of new next ≡ sequence (behind_flow stays (unparked at)) →
-      IsReady new (requests_behind (stage_of new next) old) (side_behind false (stage_of new next) (Some further)) next (sequence (behind_flow stays (unparked at)))
+  ready_behind : (stays : Bool) (further : Link) → (stays ≡ true → Keeps seen.client old) → stage_of new next ≡ sequence (behind_flow stays (unparked at)) →
+      IsReady terms new (requests_behind (stage_of new next) old) (side_behind false (stage_of new next) (Some further)) next (sequence (behind_flow stays (unparked at)))
       (record seen { server = []; shut = false }) none_sent
-  ready_behind true further leads = record {
+  ready_behind true further keeps leads = record {
     is_stage = leads;
     request = (let first : Reads request [] seen.client false (before_all request old.rest false) =
-        subst (λ l. Reads request [] l false (before_all request old.rest false)) keeps.rest (begins_here request old.rest) in
+        subst (λ l. Reads request [] l false (before_all request old.rest false)) (keeps refl).rest (begins_here request old.rest) in
         subst (λ s. Reads request [] seen.client false (requests_behind s old)) (sym leads) first);
     has_side = ap (λ s. side_behind false s (Some further)) leads;
   }
-  ready_behind false further leads = record { is_stage = leads; request = tt; has_side = tt }
+  ready_behind false further keeps leads = record { is_stage = leads; request = tt; has_side = tt }
 
   -- ---- a response that is streamed: its head and all that came of it, of which this was said before
 
   module _ (flow : Flow) (server : ℕ) (answer : Response) (interim : List ReadResponse) (head : ReadResponse) (all : List Mark) (further : Link) (was text : List ℕ) (given : flow.response ≡ Some answer)
       (has_body : has_no_body answer.status (is_head flow.request.method) ≡ false) (final : is_interim head ≡ false) (is_link : IsLink flow.request server seen interim (answers head ∷ all) further)
-      (said : was ++ text ≡ response_head_text (framed_by (response_of head) answer) ++ marks_text all) where
+      (said : was ++ text ≡ response_head_text (framed_by (response_of head) answer) ++ marks_text all) (beside : Beside terms flow seen up was_up old) where
+    abbrev how : Sent
+    how = sent_of up
+
+    -- what was sent before
+    abbrev before : List Command
+    before = sends_while how server was_up ++ sends_text was
+
     abbrev sent_as : Response
     sent_as = framed_by (response_of head) answer
 
@@ -211,22 +259,25 @@ module _ (at new : At) (seen : Sight) (old : State) (next : Wanted) (out longer 
     reading = response_reading (is_head flow.request.method) seen.shut is_link.fed
 
     abbrev GoesDown : Option Came → Type 0
-    GoesDown came = Goes (pass_came at flow server all_sent seen came) (past_came came seen) new next further (sends_text was)
+    GoesDown came = Goes (pass_came terms.place at flow server how seen came) (past_came came seen) new next further before
 
     -- it is not whole
-    comes_on : (to_come further.responses).marks ≡ [] → came_in flow seen ≡ None → longer ≡ out ++ sends_text text → new ≡ at → next ≡ ready.ComingDown flow server sent_as → GoesDown None
+    comes_on : (to_come further.responses).marks ≡ [] → came_in flow seen ≡ None → longer ≡ out ++ sends_text text → new ≡ at → next ≡ ready.ComingDown flow server up sent_as → GoesDown None
     comes_on none came grown here there =
-        let P : At → Wanted → Type 0 = λ a n. Goes (pass_came at flow server all_sent seen None) seen a n further (sends_text was) in
-        let stays : P at (ready.ComingDown flow server sent_as) = record {
-          sent = record { interim = []; text = was ++ text };
+        let P : At → Wanted → Type 0 = λ a n. Goes (pass_came terms.place at flow server how seen None) seen a n further before in
+        let stays : P at (ready.ComingDown flow server up sent_as) = record {
+          sent = record { interim = []; text = was ++ text; up = was_up };
           more = sends_text text;
           grown = grown;
           owes = λ view.
-              ap (λ l. seen_of view (sends_text was ++ l)) (sym (append-nil (sends_text text)))
-              ∙ (texts_sent view was text [] ∙ ap (seen_of view) (append-nil (sends_text (was ++ text))));
+              ap (seen_of view) (append_assoc (sends_while how server was_up) (sends_text was) (sends_text text))
+              ∙ (seen_append view (sends_while how server was_up) (sends_text was ++ sends_text text)
+              ∙ (ap (λ l. seen_of view (sends_while how server was_up) ++ l)
+              (ap (λ l. seen_of view (sends_text was ++ l)) (sym (append-nil (sends_text text))) ∙ (texts_sent view was text [] ∙ ap (seen_of view) (append-nil (sends_text (was ++ text)))))
+              ∙ sym (seen_append view (sends_while how server was_up) (sends_text (was ++ text)))));
           is_ready = record {
             is_stage = refl;
-            request = keeps;
+            request = beside.reads;
             has_side = record {
               sent = interim;
               head = head;
@@ -237,8 +288,8 @@ module _ (at new : At) (seen : Sight) (old : State) (next : Wanted) (out longer 
               is_link = is_link;
             };
           };
-          is_passed = came;
-          no_more = none;
+          is_passed = record { gone = beside.gone server; come = came };
+          no_more = record { up = beside.none_up; down = none };
         } in
         subst (λ a. P a next) (sym here) (subst (λ n. P at n) (sym there) stays)
 
@@ -247,7 +298,7 @@ module _ (at new : At) (seen : Sight) (old : State) (next : Wanted) (out longer 
     came_here = record { response = answer; head = head }
 
     abbrev goes_further : Bool
-    goes_further = goes_on_behind at.flow flow.request answer sent_as
+    goes_further = stays_behind at.flow flow up answer sent_as
 
     abbrev ending : List Command
     ending = finished_streamed flow seen.now (server_in server seen) ++ shut_unless goes_further NoServer seen.closed
@@ -271,13 +322,19 @@ module _ (at new : At) (seen : Sight) (old : State) (next : Wanted) (out longer 
           more = sends_text last ++ ending;
           grown = grown;
           owes = λ view.
-              texts_sent view was last ending
-              ∙ (text_sent view (was ++ last) ending
-              ∙ (ap (λ t. seen_of view (commands.Send Client t ∷ ending)) (whole_text trailers used is)
-              ∙ ap (seen_of view) (sym (ap (λ l. (commands.Send Client (coming_text flow seen) ∷ ending) ++ l) (sent_behind goes_further (unparked at)) ∙ append-nil (commands.Send Client (coming_text flow seen) ∷ ending)))));
-          is_ready = ready_behind goes_further further leads;
-          is_passed = passed_behind goes_further (unparked at) (record seen { server = []; shut = false });
-          no_more = none_behind goes_further (unparked at) new next (side_behind false (stage_of new next) (Some further)) leads;
+              let first : List Command = sends_while how server was_up in
+              let owed : List Command = sends_up terms.place flow server how seen in
+              let rest : List Command = commands.Send Client (coming_text flow seen) ∷ ending in
+              ap (seen_of view) (append_assoc first (sends_text was) (sends_text last ++ ending))
+              ∙ (seen_append view first (sends_text was ++ (sends_text last ++ ending))
+              ∙ (ap (λ l. seen_of view first ++ l)
+              (texts_sent view was last ending ∙ (text_sent view (was ++ last) ending ∙ ap (λ t. seen_of view (commands.Send Client t ∷ ending)) (whole_text trailers used is)))
+              ∙ (ap (λ l. l ++ seen_of view rest) (up_owed terms flow server seen up was_up old beside view)
+              ∙ (sym (seen_append view owed rest)
+              ∙ ap (seen_of view) (sym (ap (λ l. (owed ++ rest) ++ l) (sent_behind goes_further (unparked at)) ∙ append-nil (owed ++ rest)))))));
+          is_ready = ready_behind goes_further further (λ stays. keeps_all terms flow seen up was_up old (both_first (is_sent (sent_of up)) _ stays) beside.reads) leads;
+          is_passed = passed_behind terms.place goes_further (unparked at) (record seen { server = []; shut = false });
+          no_more = none_behind goes_further (unparked at) new next (requests_behind (stage_of new next) old) (side_behind false (stage_of new next) (Some further)) leads;
         }
 
     -- its item there, by how the reading ended
@@ -291,7 +348,7 @@ module _ (at new : At) (seen : Sight) (old : State) (next : Wanted) (out longer 
     goes_down_by came is goes = subst GoesDown (sym is) goes
 
     goes_down : (got : Progress) → HasCome got reading (answers head ∷ all) is_link.fed further.responses →
-        WentDown at new seen.now (server_in server seen) seen.closed flow server sent_as got text next out longer → GoesDown (came_in flow seen)
+        WentDown at new seen.now (server_in server seen) seen.closed flow server up sent_as got text next out longer → GoesDown (came_in flow seen)
     goes_down progress.Missing come went =
         let came = came_as goes_on come in
         goes_down_by None came
@@ -304,15 +361,16 @@ module _ (at new : At) (seen : Sight) (old : State) (next : Wanted) (out longer 
         let last : List ℕ = text ++ last_text sent_as.fields trailers in
         goes_down_by (Some came_here) (came_as (whole trailers come.0) come.1)
         (comes_whole trailers come.0 come.1
-        (went.gives ∙ ap (λ o. out ++ (sends_text last ++ ended_gives at.flow flow o sent_as seen.now (server_in server seen) seen.closed)) given)
-        (went.leads ∙ ap (λ o. ended_leads at flow o sent_as) given))
+        (went.gives ∙ ap (λ o. out ++ (sends_text last ++ ended_gives at.flow flow up o sent_as seen.now (server_in server seen) seen.closed)) given)
+        (went.leads ∙ ap (λ o. ended_leads at flow up o sent_as) given))
 
   -- ---- a response that is streamed already
 
   down_at : (flow : Flow) (server : ℕ) (is_sent : Response) (was : List ℕ) (link further : Link) → ReadsDown flow server seen (Some is_sent) was link → (got : Progress) (text : List ℕ) →
-      SaysMore got [] text link further → WentDown at new seen.now (server_in server seen) seen.closed flow server is_sent got text next out longer →
-      Goes (pass (busy at flow (coming_down server all_sent)) seen) (sight_past (busy at flow (coming_down server all_sent)) seen) new next further (sends_text was)
-  down_at flow server is_sent was link further read got text more went =
+      SaysMore got [] text link further → WentDown at new seen.now (server_in server seen) seen.closed flow server up is_sent got text next out longer →
+      Beside terms flow seen up was_up old →
+      Goes (come_down terms (busy at flow (coming_down server (sent_of up))) seen) (sight_come (busy at flow (coming_down server (sent_of up))) seen) new next further (sends_while (sent_of up) server was_up ++ sends_text was)
+  down_at flow server is_sent was link further read got text more went beside =
       let asked_head : Bool = is_head flow.request.method in
       let told : List Mark = answers read.head ∷ read.marks in
       let over = more.read.held.over in
@@ -327,13 +385,17 @@ module _ (at new : At) (seen : Sight) (old : State) (next : Wanted) (out longer 
       ∙ ap (λ s. response_head_text s ++ marks_text all) framed))) in
       goes_down flow server read.streamed.response read.sent read.head all further was text read.streamed.is_given read.streamed.has_body read.final
       (link_on asked_head server seen.server seen.shut read.sent told over.marks link further read.is_link more.same (over.reads (response asked_head) told read.is_link.fed seen.shut read.is_link.reads))
-      said got (more.read.held.come (response asked_head) told read.is_link.fed seen.shut read.is_link.reads)
-      (subst (λ s. WentDown at new seen.now (server_in server seen) seen.closed flow server s got text next out longer) framed went)
+      said beside got (more.read.held.come (response asked_head) told read.is_link.fed seen.shut read.is_link.reads)
+      (subst (λ s. WentDown at new seen.now (server_in server seen) seen.closed flow server up s got text next out longer) framed went)
 
   -- ---- one that may yet be
 
   module _ (flow : Flow) (server : ℕ) (most : Option ℕ) (body : List ℕ) (held : Held) (link further : Link) (read : ReadsReturn flow server most seen body (Some held) link)
-      (it : HeldPassed at new seen.now (server_in server seen) seen.closed flow server most body held next (Some link) (Some further) out longer) where
+      (it : HeldPassed at new seen.now (server_in server seen) seen.closed flow server up most body held next (Some link) (Some further) out longer) (beside : Beside terms flow seen up was_up old)
+      (gone : IsGone terms.place (busy at flow (response_body server (sent_of up) most)) seen) where
+    abbrev first : List Command
+    first = sends_while (sent_of up) server was_up
+
     abbrev asked_head : Bool
     asked_head = is_head flow.request.method
 
@@ -371,20 +433,20 @@ module _ (at new : At) (seen : Sight) (old : State) (next : Wanted) (out longer 
         ∙ ap (λ l. streams_by flow flow.response held.read most (length l)) (sym content_is))
 
     abbrev GoesBy : Bool → Type 0
-    GoesBy b = Goes (pass_kept b at flow server all_sent most seen) (past_kept b (came_in (streaming flow) seen) seen) new next further []
+    GoesBy b = Goes (pass_kept b terms.place at flow server (sent_of up) most seen) (past_kept b (came_in (streaming flow) seen) seen) new next further first
 
     -- it is held on
-    holds_on : streams_in flow most seen ≡ false → HeldWent false at new seen.now (server_in server seen) seen.closed flow server most it.body it.more it.got next out longer → GoesBy false
+    holds_on : streams_in flow most seen ≡ false → HeldWent false at new seen.now (server_in server seen) seen.closed flow server up most it.body it.more it.got next out longer → GoesBy false
     holds_on streams went =
-        let P : At → Wanted → Type 0 = λ a n. Goes (pass_kept false at flow server all_sent most seen) seen a n further [] in
-        let stays : P at (ready.ResponseBody flow server most it.body (Some it.more)) = record {
-          sent = none_sent;
+        let P : At → Wanted → Type 0 = λ a n. Goes (pass_kept false terms.place at flow server (sent_of up) most seen) seen a n further first in
+        let stays : P at (ready.ResponseBody flow server up most it.body (Some it.more)) = record {
+          sent = record none_sent { up = was_up };
           more = [];
           grown = went.gives ∙ sym (append-nil out);
-          owes = λ view. refl;
+          owes = λ view. ap (seen_of view) (append-nil first);
           is_ready = record {
             is_stage = refl;
-            request = keeps;
+            request = beside.reads;
             has_side = record {
               sent = read.sent;
               head = read.head;
@@ -395,23 +457,24 @@ module _ (at new : At) (seen : Sight) (old : State) (next : Wanted) (out longer 
               is_link = is_link;
             };
           };
-          is_passed = streams;
-          no_more = none_left it.got (response asked_head) (answers read.head ∷ all) read.is_link.fed seen.shut further.responses is_link.reads come_to;
+          is_passed = record { gone = gone; come = streams };
+          no_more = record { up = beside.none_up; down = none_left it.got (response asked_head) (answers read.head ∷ all) read.is_link.fed seen.shut further.responses is_link.reads come_to };
         } in
         subst (λ a. P a next) (sym went.same) (subst (λ n. P at n) (sym went.is_there) stays)
 
     -- it is streamed from here on
     starts_down : streams_by flow flow.response held.read most (length it.body) ≡ true →
-        HeldWent true at new seen.now (server_in server seen) seen.closed flow server most it.body it.more it.got next out longer → GoesBy true
+        HeldWent true at new seen.now (server_in server seen) seen.closed flow server up most it.body it.more it.got next out longer → GoesBy true
     starts_down streams went =
         let head_text : List ℕ = response_head_text (framed_by (response_of read.head) went.response) in
         let P : Response → List ℕ → Type 0 = λ r l.
-        WentDown at new seen.now (server_in server seen) seen.closed (streaming flow) server (framed_by r went.response) it.got (response_head_text (framed_by r went.response) ++ l) next out longer in
-        goes_down (streaming flow) server went.response read.sent read.head all further [] (head_text ++ marks_text all) went.is_given
-        (given_has_body flow flow.response went.response held.read most (length it.body) went.is_given streams) read.final is_link refl it.got come_to
-        (subst (λ l. P (response_of read.head) l) said_is (subst (λ r. P r it.more.said.items) read_is went.went))
+        WentDown at new seen.now (server_in server seen) seen.closed (streaming flow) server up (framed_by r went.response) it.got (response_head_text (framed_by r went.response) ++ l) next out longer in
+        subst (Goes (pass_down terms.place at (streaming flow) server (sent_of up) seen) (past_came (came_in (streaming flow) seen) seen) new next further) (append-nil first)
+        (goes_down (streaming flow) server went.response read.sent read.head all further [] (head_text ++ marks_text all) went.is_given
+        (given_has_body flow flow.response went.response held.read most (length it.body) went.is_given streams) read.final is_link refl (streaming_beside terms flow seen up was_up old beside) it.got come_to
+        (subst (λ l. P (response_of read.head) l) said_is (subst (λ r. P r it.more.said.items) read_is went.went)))
 
-    held_by : (b : Bool) → streams_by flow flow.response held.read most (length it.body) ≡ b → HeldWent b at new seen.now (server_in server seen) seen.closed flow server most it.body it.more it.got next out longer →
+    held_by : (b : Bool) → streams_by flow flow.response held.read most (length it.body) ≡ b → HeldWent b at new seen.now (server_in server seen) seen.closed flow server up most it.body it.more it.got next out longer →
         GoesBy b
     held_by true is went = starts_down is went
     held_by false is went = holds_on (streams_as ∙ is) went
@@ -428,62 +491,89 @@ passed_in at new looked next side middle out longer used there moment now closed
     (subst (λ m. Passed at new m used shut looked next side middle out longer) two
     (subst (λ c. Passed at new moment used c looked next side middle out longer) three is))
 
-module _ (at new : At) (seen : Sight) (old : State) (moment : ℕ) (closed : Bool) (out longer : List Command) (sent : SentOn) (now : moment ≡ seen.now) (next : Wanted) where
+-- how the request stands meanwhile
+beside_for : (terms : Terms) (flow : Flow) (seen : Sight) (up : Sending) (text : List ℕ) (old : State) → GoesOnUp terms flow seen up text old → NoMoreUp up old →
+    ((server : ℕ) → gone_by (going_at (coming_down server (sent_of up))) (whole_in seen) ≡ None) → Beside terms flow seen up text old
+beside_for terms flow seen up text old reads none gone = record { reads = reads; none_up = none; gone = gone }
+
+-- it is not whole whichever server it goes to
+gone_any : (one server : ℕ) (o : Option ℕ) → gone_by (Some one) o ≡ None → gone_by (Some server) o ≡ None
+gone_any one server None is = refl
+gone_any one server (Some size) is = absurd (let no : Some one ≡ None = is in cc)
+
+body_gone : (place : Place) (at : At) (flow : Flow) (server : ℕ) (most : Option ℕ) (up : Sending) (seen : Sight) → IsGone place (busy at flow (response_body server (sent_of up) most)) seen →
+    (other : ℕ) → gone_by (going_at (coming_down other (sent_of up))) (whole_in seen) ≡ None
+body_gone place at flow server most sending.All seen gone other = refl
+body_gone place at flow server most (sending.GoingUp goes) seen gone other = gone_any server other (whole_in seen) gone
+
+down_gone : (place : Place) (at : At) (flow : Flow) (server : ℕ) (up : Sending) (seen : Sight) → IsGone place (busy at flow (coming_down server (sent_of up))) seen →
+    (other : ℕ) → gone_by (going_at (coming_down other (sent_of up))) (whole_in seen) ≡ None
+down_gone place at flow server sending.All seen gone other = refl
+down_gone place at flow server (sending.GoingUp goes) seen gone other = gone_any server other (whole_in seen) gone
+
+module _ (terms : Terms) (at new : At) (seen : Sight) (old : State) (moment : ℕ) (closed : Bool) (out longer : List Command) (sent : SentOn) (now : moment ≡ seen.now) (next : Wanted) where
   -- the server of an open side is that of the stage
   open_used : (server : ℕ) (link : Link) → link.server ≡ server → link.closed ≡ seen.shut → used_in (Some link) ≡ server_in server seen
   open_used server link one two = rw (one, two) refl
 
   abbrev PassedOn : Option Link → Stage → Type 0
   PassedOn middle stage =
-      PassedTo stage seen new (requests_behind (stage_of new next) old) (side_behind false (stage_of new next) middle) next (sent_on stage sent) out longer
+      CameTo terms stage seen new (requests_behind (stage_of new next) old) (side_behind false (stage_of new next) middle) next (sent_on stage sent) out longer
 
-  body_passed : (flow : Flow) (server : ℕ) (most : Option ℕ) (body : List ℕ) (held : Held) (side middle : Option Link) → Keeps seen.client old → closed ≡ seen.closed →
-      IsOpen (ReadsReturn flow server most seen body (Some held)) side → HeldPassed at new moment (used_in side) closed flow server most body held next side middle out longer →
-      PassedOn middle (busy at flow (response_body server all_sent most))
-  body_passed flow server most body held None middle keeps shut is_open it = absurd is_open
-  body_passed flow server most body held (Some link) None keeps shut is_open it = absurd it.read
-  body_passed flow server most body held (Some link) (Some further) keeps shut is_open it =
-      goes_to_there (busy at flow (response_body server all_sent most)) seen new (requests_behind (stage_of new next) old) (side_behind false (stage_of new next) (Some further)) next [] out longer
-      (held_at at new seen old next out longer keeps flow server most body held link further is_open
-      (passed_in at new (ready.ResponseBody flow server most body (Some held)) next (Some link) (Some further) out longer (used_in (Some link)) (server_in server seen) moment seen.now closed seen.closed
-      (open_used server link is_open.is_link.server is_open.is_link.closed) now shut it))
+  body_passed : (flow : Flow) (server : ℕ) (up : Sending) (most : Option ℕ) (body : List ℕ) (held : Held) (side middle : Option Link) → GoesOnUp terms flow seen up sent.up old → NoMoreUp up old →
+      IsGone terms.place (busy at flow (response_body server (sent_of up) most)) seen → closed ≡ seen.closed →
+      IsOpen (ReadsReturn flow server most seen body (Some held)) side → HeldPassed at new moment (used_in side) closed flow server up most body held next side middle out longer →
+      PassedOn middle (busy at flow (response_body server (sent_of up) most))
+  body_passed flow server up most body held None middle reads none gone shut is_open it = absurd is_open
+  body_passed flow server up most body held (Some link) None reads none gone shut is_open it = absurd it.read
+  body_passed flow server up most body held (Some link) (Some further) reads none gone shut is_open it =
+      let stage : Stage = busy at flow (response_body server (sent_of up) most) in
+      goes_to_there terms stage seen new (requests_behind (stage_of new next) old) (side_behind false (stage_of new next) (Some further)) next (sent_on stage sent) out longer
+      (held_at terms at new seen old next out longer up sent.up flow server most body held link further is_open
+      (passed_in at new (ready.ResponseBody flow server up most body (Some held)) next (Some link) (Some further) out longer (used_in (Some link)) (server_in server seen) moment seen.now closed seen.closed
+      (open_used server link is_open.is_link.server is_open.is_link.closed) now shut it)
+      (beside_for terms flow seen up sent.up old reads none (body_gone terms.place at flow server most up seen gone)) gone)
 
-  down_passed : (flow : Flow) (server : ℕ) (is_sent : Response) (side middle : Option Link) → Keeps seen.client old → closed ≡ seen.closed →
-      IsOpen (ReadsDown flow server seen (Some is_sent) sent.text) side → DownPassed at new moment (used_in side) closed flow server is_sent next side middle out longer →
-      PassedOn middle (busy at flow (coming_down server all_sent))
-  down_passed flow server is_sent None middle keeps shut is_open it = absurd is_open
-  down_passed flow server is_sent (Some link) None keeps shut is_open it = absurd it.read
-  down_passed flow server is_sent (Some link) (Some further) keeps shut is_open it =
-      let here = passed_in at new (ready.ComingDown flow server is_sent) next (Some link) (Some further) out longer (used_in (Some link)) (server_in server seen) moment seen.now closed seen.closed
+  down_passed : (flow : Flow) (server : ℕ) (up : Sending) (is_sent : Response) (side middle : Option Link) → GoesOnUp terms flow seen up sent.up old → NoMoreUp up old →
+      IsGone terms.place (busy at flow (coming_down server (sent_of up))) seen → closed ≡ seen.closed →
+      IsOpen (ReadsDown flow server seen (Some is_sent) sent.text) side → DownPassed at new moment (used_in side) closed flow server up is_sent next side middle out longer →
+      PassedOn middle (busy at flow (coming_down server (sent_of up)))
+  down_passed flow server up is_sent None middle reads none gone shut is_open it = absurd is_open
+  down_passed flow server up is_sent (Some link) None reads none gone shut is_open it = absurd it.read
+  down_passed flow server up is_sent (Some link) (Some further) reads none gone shut is_open it =
+      let stage : Stage = busy at flow (coming_down server (sent_of up)) in
+      let here = passed_in at new (ready.ComingDown flow server up is_sent) next (Some link) (Some further) out longer (used_in (Some link)) (server_in server seen) moment seen.now closed seen.closed
       (open_used server link is_open.is_link.server is_open.is_link.closed) now shut it in
-      goes_to_there (busy at flow (coming_down server all_sent)) seen new (requests_behind (stage_of new next) old) (side_behind false (stage_of new next) (Some further)) next (sends_text sent.text) out longer
-      (down_at at new seen old next out longer keeps flow server is_sent sent.text link further is_open here.got here.text here.read here.went)
+      goes_to_there terms stage seen new (requests_behind (stage_of new next) old) (side_behind false (stage_of new next) (Some further)) next (sent_on stage sent) out longer
+      (down_at terms at new seen old next out longer up sent.up flow server is_sent sent.text link further is_open here.got here.text here.read here.went
+      (beside_for terms flow seen up sent.up old reads none (down_gone terms.place at flow server up seen gone)))
 
-  passes_by : (looked : Wanted) (side middle : Option Link) → HasRequest (stage_of at looked) seen (content_in looked) old → HasSide (stage_of at looked) seen sent looked side → HasPlace (stage_of at looked) seen at closed →
+  passes_by : (looked : Wanted) (side middle : Option Link) → HasRequest terms (stage_of at looked) seen sent.up looked old → HasNoMoreUp looked old → IsGone terms.place (stage_of at looked) seen →
+      HasSide (stage_of at looked) seen sent looked side → HasPlace (stage_of at looked) seen at closed →
       is_passing looked ≡ true → Passed at new moment (used_in side) closed looked next side middle out longer → PassedOn middle (stage_of at looked)
-  passes_by (ready.ResponseBody flow server most body (Some held)) side middle keeps is_open place passing it = body_passed flow server most body held side middle keeps place.client is_open it
-  passes_by (ready.ComingDown flow server is_sent) side middle keeps is_open place passing it = down_passed flow server is_sent side middle keeps place.client is_open it
-  passes_by (ready.ResponseBody flow server most body None) side middle keeps is_open place passing it = absurd (let no : false ≡ true = passing in cc)
-  passes_by ready.Idle side middle reads parked place passing it = absurd (let no : false ≡ true = passing in cc)
-  passes_by (ready.RequestBody flow given body) side middle reads parked place passing it = absurd (let no : false ≡ true = passing in cc)
-  passes_by (ready.Connection flow) side middle keeps parked place passing it = absurd (let no : false ≡ true = passing in cc)
-  passes_by (ready.ResponseHead flow server) side middle keeps is_open place passing it = absurd (let no : false ≡ true = passing in cc)
-  passes_by (ready.Upgraded flow server) side middle keeps is_open place passing it = absurd (let no : false ≡ true = passing in cc)
-  passes_by (ready.GivenHead flow) side middle keeps parked place passing it = absurd (let no : false ≡ true = passing in cc)
-  passes_by (ready.GivenBody flow) side middle keeps parked place passing it = absurd (let no : false ≡ true = passing in cc)
-  passes_by (ready.Connects address) side middle none is_open place passing it = absurd (let no : false ≡ true = passing in cc)
-  passes_by ready.Over side middle keeps is_open place passing it = absurd (let no : false ≡ true = passing in cc)
+  passes_by (ready.ResponseBody flow server up most body (Some held)) side middle reads none gone is_open place passing it = body_passed flow server up most body held side middle reads none gone place.client is_open it
+  passes_by (ready.ComingDown flow server up is_sent) side middle reads none gone is_open place passing it = down_passed flow server up is_sent side middle reads none gone place.client is_open it
+  passes_by (ready.ResponseBody flow server up most body None) side middle reads none gone is_open place passing it = absurd (let no : false ≡ true = passing in cc)
+  passes_by ready.Idle side middle reads none gone parked place passing it = absurd (let no : false ≡ true = passing in cc)
+  passes_by (ready.RequestBody flow given most body held) side middle reads none gone parked place passing it = absurd (let no : false ≡ true = passing in cc)
+  passes_by (ready.Connection flow up) side middle reads none gone parked place passing it = absurd (let no : false ≡ true = passing in cc)
+  passes_by (ready.ResponseHead flow server up) side middle reads none gone is_open place passing it = absurd (let no : false ≡ true = passing in cc)
+  passes_by (ready.Upgraded flow server) side middle reads none gone is_open place passing it = absurd (let no : false ≡ true = passing in cc)
+  passes_by (ready.GivenHead flow) side middle reads none gone parked place passing it = absurd (let no : false ≡ true = passing in cc)
+  passes_by (ready.GivenBody flow) side middle reads none gone parked place passing it = absurd (let no : false ≡ true = passing in cc)
+  passes_by (ready.Connects address) side middle reads none gone is_open place passing it = absurd (let no : false ≡ true = passing in cc)
+  passes_by ready.Over side middle reads none gone is_open place passing it = absurd (let no : false ≡ true = passing in cc)
 
--- What is given is what passing owes, with what is sent of where it leads, and the flow is there.
-pub passes_follow : (at new : At) (seen : Sight) (old later : State) (side middle : Option Link) (moment : ℕ) (closed : Bool) (out longer : List Command) (sent : SentOn) →
-    moment ≡ seen.now → (stage : Stage) (looked next : Wanted) → IsReady at old side looked stage seen sent → HasPlace stage seen at closed → is_passing looked ≡ true →
+-- What is given is what is owed where it comes down, with what is sent of where it leads, and the flow is there.
+pub passes_follow : (made : Terms) (at new : At) (seen : Sight) (old later : State) (side middle : Option Link) (moment : ℕ) (closed : Bool) (out longer : List Command) (sent : SentOn) →
+    moment ≡ seen.now → (stage : Stage) (looked next : Wanted) → IsReady made at old side looked stage seen sent → HasPlace stage seen at closed → IsGone made.place stage seen → HasNoMoreUp looked old → is_passing looked ≡ true →
     Passed at new moment (used_in side) closed looked next side middle out longer → later ≡ requests_behind (stage_of new next) old →
-    PassedTo stage seen new later (side_behind false (stage_of new next) middle) next (sent_on stage sent) out longer
-passes_follow at new seen old later side middle moment closed out longer sent now stage looked next is place passing it follows =
+    CameTo made stage seen new later (side_behind false (stage_of new next) middle) next (sent_on stage sent) out longer
+passes_follow made at new seen old later side middle moment closed out longer sent now stage looked next is place gone none passing it follows =
     let same : stage_of at looked ≡ stage = is.is_stage in
-    let passed : PassedOn at new seen old moment closed out longer sent now next middle (stage_of at looked) =
-    passes_by at new seen old moment closed out longer sent now next looked side middle
-    (subst (λ s. HasRequest s seen (content_in looked) old) (sym same) is.request) (subst (λ s. HasSide s seen sent looked side) (sym same) is.has_side)
+    let passed : PassedOn made at new seen old moment closed out longer sent now next middle (stage_of at looked) =
+    passes_by made at new seen old moment closed out longer sent now next looked side middle
+    (subst (λ s. HasRequest made s seen sent.up looked old) (sym same) is.request) none (subst (λ s. IsGone made.place s seen) (sym same) gone) (subst (λ s. HasSide s seen sent looked side) (sym same) is.has_side)
     (subst (λ s. HasPlace s seen at closed) (sym same) place) passing it in
-    subst (λ s. PassedTo s seen new later (side_behind false (stage_of new next) middle) next (sent_on s sent) out longer) same
-    (subst (λ r. PassedTo (stage_of at looked) seen new r (side_behind false (stage_of new next) middle) next (sent_on (stage_of at looked) sent) out longer) (sym follows) passed)
+    subst (λ s. CameTo made s seen new later (side_behind false (stage_of new next) middle) next (sent_on s sent) out longer) same
+    (subst (λ r. CameTo made (stage_of at looked) seen new r (side_behind false (stage_of new next) middle) next (sent_on (stage_of at looked) sent) out longer) (sym follows) passed)

@@ -10,10 +10,10 @@ use Rattle.px_message.specs.declared.response.Response.{Response}
 use Rattle.px_read.specs.Reader.{State}
 use Rattle.px_exchange.specs.declared.body.Progress.TheVariants as progress
 use Rattle.px_exchange.specs.Bodies.{IsReading}
-use Rattle.px_exchange.specs.Endings.{goes_on_behind}
 use Rattle.px_chain.specs.Chain.{behind_flow, sequence}
 use Rattle.px_chain.specs.Coming.{streaming}
 use Rattle.px_stream.specs.declared.coming.Held.{Held}
+use Rattle.px_stream.specs.declared.going.Sending.{Sending}
 use Rattle.px_stream.specs.Comings.{CollectsHeld, framed_by}
 use Rattle.px_stream.specs.Looks.{MayLook}
 use Rattle.px_stream.specs.declared.link.Link.{Link}
@@ -21,7 +21,7 @@ use Rattle.px_stream.specs.declared.passing.Undecided.{Undecided}
 use Rattle.px_stream.specs.declared.phase.Wanted.{Wanted}
 use Rattle.px_stream.specs.declared.phase.Wanted.TheVariants as ready
 use Rattle.px_stream.specs.declared.stream.Stream.{Stream}
-use Rattle.px_stream.specs.Passes.{DownLeads, HeldPassed, HeldWent, HoldsMore, MayPass, Passed, PassedBy, PassesOnce, SaysMore, StartedDown, ended_leads, is_passing, streams_by}
+use Rattle.px_stream.specs.Passes.{DownLeads, HeldPassed, HeldWent, HoldsMore, MayPass, Passed, PassedBy, PassesOnce, SaysMore, StartedDown, ended_leads, is_passing, stays_behind, streams_by}
 use Rattle.px_stream.specs.Stands.{IsOpen, StaysOpen, stage_of, used_in}
 use Rattle.px_stream.specs.Turns.{requests_behind, side_behind}
 
@@ -37,11 +37,11 @@ module _ (at new : At) (moment : ℕ) (used : Used) (closed : Bool) (old now : U
 
   -- where it is streamed
   pub held_started : {E : Type 0} (result : Result Wanted E) → streams_by now.flow now.flow.response now.held.read now.most (length now.body) ≡ true →
-      IfOk result (λ next. StartedDown at new moment used closed now.flow now.server now.held.read got now.held.said.items next out longer) →
-      IfOk result (λ next. HeldPassed at new moment used closed old.flow old.server old.most old.body old.held next side later out longer)
+      IfOk result (λ next. StartedDown at new moment used closed now.flow now.server now.up now.held.read got now.held.said.items next out longer) →
+      IfOk result (λ next. HeldPassed at new moment used closed old.flow old.server old.up old.most old.body old.held next side later out longer)
   held_started (Ok next) streams started =
-      let P : Undecided → Type 0 = λ u. StartedDown at new moment used closed u.flow u.server now.held.read got now.held.said.items next out longer in
-      let Q : Bool → Type 0 = λ b. HeldWent b at new moment used closed old.flow old.server old.most now.body now.held got next out longer in record {
+      let P : Undecided → Type 0 = λ u. StartedDown at new moment used closed u.flow u.server u.up now.held.read got now.held.said.items next out longer in
+      let Q : Bool → Type 0 = λ b. HeldWent b at new moment used closed old.flow old.server old.up old.most now.body now.held got next out longer in record {
         got = got;
         body = now.body;
         more = now.held;
@@ -54,10 +54,10 @@ module _ (at new : At) (moment : ℕ) (used : Used) (closed : Bool) (old now : U
 -- and where it is not, so far
 pub held_on : (at : At) (moment : ℕ) (used : Used) (closed : Bool) (old now : Undecided) (got : Progress) (side later : Option Link) (out : List Command) → IsOf old now →
     StaysOpen (HoldsMore got old.body old.held.said.items now.body now.held.said.items) side later → streams_by now.flow now.flow.response now.held.read now.most (length now.body) ≡ false →
-    HeldPassed at at moment used closed old.flow old.server old.most old.body old.held (ready.ResponseBody now.flow now.server now.most now.body (Some now.held)) side later out out
+    HeldPassed at at moment used closed old.flow old.server old.up old.most old.body old.held (ready.ResponseBody now.flow now.server now.up now.most now.body (Some now.held)) side later out out
 held_on at moment used closed old now got side later out same read streams =
-    let next : Wanted = ready.ResponseBody now.flow now.server now.most now.body (Some now.held) in
-    let Q : Bool → Type 0 = λ b. HeldWent b at at moment used closed old.flow old.server old.most now.body now.held got next out out in record {
+    let next : Wanted = ready.ResponseBody now.flow now.server now.up now.most now.body (Some now.held) in
+    let Q : Bool → Type 0 = λ b. HeldWent b at at moment used closed old.flow old.server old.up old.most now.body now.held got next out out in record {
       got = got;
       body = now.body;
       more = now.held;
@@ -65,7 +65,7 @@ held_on at moment used closed old now got side later out same read streams =
       read = read;
       went = subst Q (sym (judged at at moment used closed old now got side later out out same read false streams)) (record {
         same = refl;
-        is_there = ap (λ (u : Undecided). ready.ResponseBody u.flow u.server u.most now.body (Some now.held)) same;
+        is_there = ap (λ (u : Undecided). ready.ResponseBody u.flow u.server u.up u.most now.body (Some now.held)) same;
         gives = refl;
       });
     }
@@ -97,11 +97,11 @@ module _ (before after : Stream) (moment now : ℕ) (used : Used) (closed : Bool
 
 may_idle : (at : At) (next : Wanted) (requests : State) (side : Option Link) (there : At) → stage_of at next ≡ idle there → MayLook next requests side
 may_idle at ready.Idle requests side there is = tt
-may_idle at (ready.RequestBody flow given body) requests side there is = absurd (let no : stage_of at (ready.RequestBody flow given body) ≡ idle there = is in cc)
-may_idle at (ready.Connection flow) requests side there is = tt
-may_idle at (ready.ResponseHead flow server) requests side there is = absurd (let no : stage_of at (ready.ResponseHead flow server) ≡ idle there = is in cc)
-may_idle at (ready.ResponseBody flow server most body held) requests side there is = absurd (let no : stage_of at (ready.ResponseBody flow server most body held) ≡ idle there = is in cc)
-may_idle at (ready.ComingDown flow server sent) requests side there is = absurd (let no : stage_of at (ready.ComingDown flow server sent) ≡ idle there = is in cc)
+may_idle at (ready.RequestBody flow given most body held) requests side there is = absurd (let no : stage_of at (ready.RequestBody flow given most body held) ≡ idle there = is in cc)
+may_idle at (ready.Connection flow up) requests side there is = tt
+may_idle at (ready.ResponseHead flow server up) requests side there is = absurd (let no : stage_of at (ready.ResponseHead flow server up) ≡ idle there = is in cc)
+may_idle at (ready.ResponseBody flow server up most body held) requests side there is = absurd (let no : stage_of at (ready.ResponseBody flow server up most body held) ≡ idle there = is in cc)
+may_idle at (ready.ComingDown flow server up sent) requests side there is = absurd (let no : stage_of at (ready.ComingDown flow server up sent) ≡ idle there = is in cc)
 may_idle at (ready.Upgraded flow server) requests side there is = tt
 may_idle at (ready.GivenHead flow) requests side there is = tt
 may_idle at (ready.GivenBody flow) requests side there is = tt
@@ -110,11 +110,11 @@ may_idle at ready.Over requests side there is = tt
 
 may_over : (at : At) (next : Wanted) (requests : State) (side : Option Link) (there : At) → stage_of at next ≡ over → MayLook next requests side
 may_over at ready.Idle requests side there is = tt
-may_over at (ready.RequestBody flow given body) requests side there is = absurd (let no : stage_of at (ready.RequestBody flow given body) ≡ over = is in cc)
-may_over at (ready.Connection flow) requests side there is = tt
-may_over at (ready.ResponseHead flow server) requests side there is = absurd (let no : stage_of at (ready.ResponseHead flow server) ≡ over = is in cc)
-may_over at (ready.ResponseBody flow server most body held) requests side there is = absurd (let no : stage_of at (ready.ResponseBody flow server most body held) ≡ over = is in cc)
-may_over at (ready.ComingDown flow server sent) requests side there is = absurd (let no : stage_of at (ready.ComingDown flow server sent) ≡ over = is in cc)
+may_over at (ready.RequestBody flow given most body held) requests side there is = absurd (let no : stage_of at (ready.RequestBody flow given most body held) ≡ over = is in cc)
+may_over at (ready.Connection flow up) requests side there is = tt
+may_over at (ready.ResponseHead flow server up) requests side there is = absurd (let no : stage_of at (ready.ResponseHead flow server up) ≡ over = is in cc)
+may_over at (ready.ResponseBody flow server up most body held) requests side there is = absurd (let no : stage_of at (ready.ResponseBody flow server up most body held) ≡ over = is in cc)
+may_over at (ready.ComingDown flow server up sent) requests side there is = absurd (let no : stage_of at (ready.ComingDown flow server up sent) ≡ over = is in cc)
 may_over at (ready.Upgraded flow server) requests side there is = tt
 may_over at (ready.GivenHead flow) requests side there is = tt
 may_over at (ready.GivenBody flow) requests side there is = tt
@@ -125,9 +125,9 @@ may_behind : (stays : Bool) (at there : At) (next : Wanted) (requests : State) (
 may_behind true at there next requests side is = may_idle at next requests side (record there { flow = there.flow + 1 }) is
 may_behind false at there next requests side is = may_over at next requests side there is
 
-may_ended : (at new : At) (flow : Flow) (o : Option Response) (sent : Response) (next : Wanted) (requests : State) (side : Option Link) → stage_of new next ≡ ended_leads at flow o sent → MayLook next requests side
-may_ended at new flow None sent next requests side is = may_over new next requests side at is
-may_ended at new flow (Some answer) sent next requests side is = may_behind (goes_on_behind at.flow flow.request answer sent) new (unparked at) next requests side is
+may_ended : (at new : At) (flow : Flow) (up : Sending) (o : Option Response) (sent : Response) (next : Wanted) (requests : State) (side : Option Link) → stage_of new next ≡ ended_leads at flow up o sent → MayLook next requests side
+may_ended at new flow up None sent next requests side is = may_over new next requests side at is
+may_ended at new flow up (Some answer) sent next requests side is = may_behind (stays_behind at.flow flow up answer sent) new (unparked at) next requests side is
 
 abbrev Reading : Option Link → Type 0
 Reading side = IsOpen (λ link. IsReading link.responses) side
@@ -147,38 +147,38 @@ collected old new content said body longer held is = record {
   reads = held.reads is.message is.told is.fed is.closed is.reads;
 }
 
-may_down : (got : Progress) (at new : At) (flow : Flow) (server : ℕ) (sent : Response) (next : Wanted) (requests : State) (middle : Option Link) → DownLeads got at new flow server sent next → Reading middle →
+may_down : (got : Progress) (at new : At) (flow : Flow) (server : ℕ) (up : Sending) (sent : Response) (next : Wanted) (requests : State) (middle : Option Link) → DownLeads got at new flow server up sent next → Reading middle →
     MayLook next requests (side_behind false (stage_of new next) middle)
-may_down (progress.Whole trailers) at new flow server sent next requests middle leads is = may_ended at new flow flow.response sent next requests (side_behind false (stage_of new next) middle) leads
-may_down (progress.Bad fault) at new flow server sent next requests middle leads is =
+may_down (progress.Whole trailers) at new flow server up sent next requests middle leads is = may_ended at new flow up flow.response sent next requests (side_behind false (stage_of new next) middle) leads
+may_down (progress.Bad fault) at new flow server up sent next requests middle leads is =
     let P : Wanted → Type 0 = λ n. MayLook n requests (side_behind false (stage_of new n) middle) in subst P (sym leads.1) is
-may_down progress.Missing at new flow server sent next requests middle leads is =
+may_down progress.Missing at new flow server up sent next requests middle leads is =
     let P : Wanted → Type 0 = λ n. MayLook n requests (side_behind false (stage_of new n) middle) in subst P (sym leads.1) is
 
-may_held : (b : Bool) (at new : At) (moment : ℕ) (used : Used) (closed : Bool) (flow : Flow) (server : ℕ) (most : Option ℕ) (body : List ℕ) (held : Held) (got : Progress) (next : Wanted) (out longer : List Command)
-    (requests : State) (middle : Option Link) → HeldWent b at new moment used closed flow server most body held got next out longer → Reading middle → MayLook next requests (side_behind false (stage_of new next) middle)
-may_held true at new moment used closed flow server most body held got next out longer requests middle went is =
-    may_down got at new (streaming flow) server (framed_by held.read went.response) next requests middle went.went.leads is
-may_held false at new moment used closed flow server most body held got next out longer requests middle went is =
+may_held : (b : Bool) (at new : At) (moment : ℕ) (used : Used) (closed : Bool) (flow : Flow) (server : ℕ) (up : Sending) (most : Option ℕ) (body : List ℕ) (held : Held) (got : Progress) (next : Wanted) (out longer : List Command)
+    (requests : State) (middle : Option Link) → HeldWent b at new moment used closed flow server up most body held got next out longer → Reading middle → MayLook next requests (side_behind false (stage_of new next) middle)
+may_held true at new moment used closed flow server up most body held got next out longer requests middle went is =
+    may_down got at new (streaming flow) server up (framed_by held.read went.response) next requests middle went.went.leads is
+may_held false at new moment used closed flow server up most body held got next out longer requests middle went is =
     let P : Wanted → Type 0 = λ n. MayLook n requests (side_behind false (stage_of new n) middle) in subst P (sym went.is_there) is
 
 module _ (before after : Stream) (moment : ℕ) (next : Wanted) (middle : Option Link) (out longer : List Command) (requests : State) where
   may_passed : (looked : Wanted) → is_passing looked ≡ true → MayPass before.at looked before.side →
       Passed before.at after.at moment (used_in before.side) before.client_closed looked next before.side middle out longer → MayLook next requests (side_behind false (stage_of after.at next) middle)
-  may_passed (ready.ResponseBody flow server most body (Some held)) passing may passed =
-      may_held (streams_by flow flow.response held.read most (length passed.body)) before.at after.at moment (used_in before.side) before.client_closed flow server most passed.body passed.more passed.got next out longer requests middle
+  may_passed (ready.ResponseBody flow server up most body (Some held)) passing may passed =
+      may_held (streams_by flow flow.response held.read most (length passed.body)) before.at after.at moment (used_in before.side) before.client_closed flow server up most passed.body passed.more passed.got next out longer requests middle
       passed.went
       (open_on (HoldsMore passed.got body held.said.items passed.body passed.more.said.items)
       (λ old new more is. collected old.responses new.responses body held.said.items passed.body passed.more.said.items more.read.over is) before.side middle passed.read may.reads)
-  may_passed (ready.ComingDown flow server sent) passing may passed =
-      may_down passed.got before.at after.at flow server sent next requests middle passed.went.leads
+  may_passed (ready.ComingDown flow server up sent) passing may passed =
+      may_down passed.got before.at after.at flow server up sent next requests middle passed.went.leads
       (open_on (SaysMore passed.got [] passed.text)
       (λ old new more is. collected old.responses new.responses [] [] more.read.body passed.text more.read.held.over is) before.side middle passed.read may.reads)
-  may_passed (ready.ResponseBody flow server most body None) passing may passed = absurd (let no : false ≡ true = passing in cc)
+  may_passed (ready.ResponseBody flow server up most body None) passing may passed = absurd (let no : false ≡ true = passing in cc)
   may_passed ready.Idle passing may passed = absurd (let no : false ≡ true = passing in cc)
-  may_passed (ready.RequestBody flow given body) passing may passed = absurd (let no : false ≡ true = passing in cc)
-  may_passed (ready.Connection flow) passing may passed = absurd (let no : false ≡ true = passing in cc)
-  may_passed (ready.ResponseHead flow server) passing may passed = absurd (let no : false ≡ true = passing in cc)
+  may_passed (ready.RequestBody flow given most body held) passing may passed = absurd (let no : false ≡ true = passing in cc)
+  may_passed (ready.Connection flow up) passing may passed = absurd (let no : false ≡ true = passing in cc)
+  may_passed (ready.ResponseHead flow server up) passing may passed = absurd (let no : false ≡ true = passing in cc)
   may_passed (ready.Upgraded flow server) passing may passed = absurd (let no : false ≡ true = passing in cc)
   may_passed (ready.GivenHead flow) passing may passed = absurd (let no : false ≡ true = passing in cc)
   may_passed (ready.GivenBody flow) passing may passed = absurd (let no : false ≡ true = passing in cc)

@@ -27,11 +27,12 @@ use Rattle.px_stream.specs.declared.reading.FinalHead.TheVariants as answer
 use Rattle.px_stream.specs.declared.reading.Came.TheVariants as came
 use Rattle.px_exchange.specs.Texts.{sends_on, interim_command}
 use Rattle.px_stream.specs.Responses.{came_by, came_of, fresh, GaveOne, NextBegun, IsKept, AnswerCome, ReadsAnswer}
-use Rattle.px_stream.specs.Stands.{Passes, ReadsLink}
+use Rattle.px_stream.specs.Stands.{IsQuiet, Passes, ReadsLink}
 use Rattle.px_stream.proofs.AnswerLemmas.{here, OfResponse, of_response, StandsThere, stands_there, final_here, nothing_here, interim_length, list_behind}
 use Rattle.px_exchange.proofs.BodyLemmas.{come}
 use Rattle.px_stream.proofs.ReadLemmas.{OfRequest, of_request}
 use Rattle.px_stream.proofs.PassLemmas.{final_behind, interim_behind}
+use Rattle.px_stream.proofs.QuietLemmas.{never_whole, still_quiet}
 
 -- on the way from one state to another these interim responses were sent on
 pub record SentOn (sends : Bool) (asked_head : Bool) (number : ℕ) (bytes : List ℕ) (shut : Bool) (sent : List ResponseHead) (new : Link) (out longer : List Command) : Type 0 where
@@ -111,12 +112,12 @@ module _ (asked_head : Bool) (number : ℕ) (bytes : List ℕ) (shut : Bool) (se
       let P : Reading → Type 0 = λ r. OfResponse r.marks in
       subst P (come (response asked_head) [] keeps.fed shut kept.responses keeps.reads) (of_response asked_head shut keeps.fed)
 
-  missing_is : (finish : Finish) (kept : Link) (new : State) (got : FinalHead) → answer.Missing ≡ got → response_told [] finish ≡ missing → ReadsLink asked_head number bytes shut sent [] (record kept { responses = new }) →
-      ((answer_list asked_head shut bytes).final ≡ response_told [] finish) × ((answer_list asked_head shut bytes).interim ≡ sent) →
+  missing_is : (kept : Link) (new : State) (got : FinalHead) → answer.Missing ≡ got → ReadsLink asked_head number bytes shut sent [] (record kept { responses = new }) →
+      ((answer_list asked_head shut bytes).final ≡ missing) × ((answer_list asked_head shut bytes).interim ≡ sent) → IsQuiet new →
       AnswerCome got asked_head number bytes shut sent (record kept { responses = new })
-  missing_is finish kept new got same none keeps both =
+  missing_is kept new got same keeps both quiet =
       let P : FinalHead → Type 0 = λ a. AnswerCome a asked_head number bytes shut sent (record kept { responses = new }) in
-      subst P same (keeps, both.0 ∙ none, both.1)
+      subst P same (keeps, both.0, both.1, quiet)
 
   pub final_come : (got : Part) (kept : Link) (new : State) (found : FinalHead) → ReadsLink asked_head number bytes shut sent [] kept → IsNext got (to_come kept.responses) →
       GaveOne got kept.responses new → came_of got ≡ came.Final found → AnswerCome found asked_head number bytes shut sent (record kept { responses = new })
@@ -127,10 +128,11 @@ module _ (asked_head : Bool) (number : ℕ) (bytes : List ℕ) (shut : Bool) (se
       let both = nothing_is kept keeps (fails fault) next in
       subst P e (gave (given.Bad fault) kept new keeps gives, both.0, both.1)
   final_come given.More kept new found keeps next gives same =
-      missing_is goes_on kept new found (let f : came.Final answer.Missing ≡ came.Final found = same in cc) refl (gave given.More kept new keeps gives) (nothing_is kept keeps goes_on next)
+      missing_is kept new found (let f : came.Final answer.Missing ≡ came.Final found = same in cc) (gave given.More kept new keeps gives) (nothing_is kept keeps goes_on next)
+      (still_quiet (response asked_head) [] keeps.fed shut kept.responses new keeps.reads next (gives (response asked_head) [] keeps.fed shut keeps.reads))
   final_come (given.End trailers) kept new found keeps (used, next) gives same =
-      missing_is (whole trailers (length keeps.reads.used + used)) kept new found (let f : came.Final answer.Missing ≡ came.Final found = same in cc) refl
-      (gave (given.End trailers) kept new keeps gives) (nothing_is kept keeps (whole trailers used) next)
+      absurd (never_whole asked_head shut keeps.fed trailers (length keeps.reads.used + used)
+      (come (response asked_head) [] keeps.fed shut kept.responses keeps.reads ∙ ap (λ r. behind_marks [] (length keeps.reads.used) r) next))
   final_come (given.Request head) kept new found keeps (some, (rest, is)) gives same = absurd (subst OfResponse is (shape kept keeps))
   final_come (given.ChunkStart size) kept new found keeps (some, (rest, is)) gives same = absurd (subst OfResponse is (shape kept keeps))
   final_come given.ChunkEnd kept new found keeps (some, (rest, is)) gives same = absurd (subst OfResponse is (shape kept keeps))

@@ -15,8 +15,9 @@ use Rattle.px_exchange.specs.declared.body.Progress.TheVariants as progress
 use Rattle.px_exchange.specs.Bodies.{HasRead, content_of}
 use Rattle.px_exchange.proofs.BodyLemmas.{come}
 use Rattle.px_stream.specs.declared.link.Link.{Link}
-use Rattle.px_stream.specs.Stands.{ReadsLink}
+use Rattle.px_stream.specs.Stands.{IsBehind, ReadsLink}
 use Rattle.px_stream.proofs.AnswerLemmas.{StandsThere, final_here, stands_there}
+use Rattle.px_stream.proofs.KeptLemmas.{behind_whole}
 use Rattle.px_stream.proofs.PassLemmas.{final_behind, used_behind}
 
 -- ---- of a request's
@@ -27,6 +28,7 @@ BodyShown progress.Missing head fed new longer =
     (all : List Mark) × (request_item fed ≡ part head (body_of all)) × (longer ≡ content_of all) × Reads request (asks head ∷ all) fed false new
 BodyShown (progress.Whole trailers) head fed new longer =
     (body : Body) × (used : ℕ) × (request_item fed ≡ complete head body trailers used) × (longer ≡ body.content) × (new.rest ≡ drop used fed) × (used ≤ length fed) × (new.closed ≡ false)
+    × IsBehind new.place
 BodyShown (progress.Bad fault) head fed new longer = (body : Body) × (request_item fed ≡ bad_body fault head body)
 
 pub body_shown : (got : Progress) (head : ReadRequest) (marks : List Mark) (fed : List ℕ) (old new : State) (content longer : List ℕ) →
@@ -50,6 +52,7 @@ body_shown (progress.Whole trailers) head marks fed old new content longer reads
       come.2,
       come.3,
       after.closed,
+      behind_whole request (asks head ∷ (marks ++ m)) fed false new trailers after come.4,
     )
 body_shown (progress.Bad fault) head marks fed old new content longer reads is read =
     let m = read.collects.marks in
@@ -74,6 +77,15 @@ no_more_read message told more fed closed old new before after none =
     let inner = length-append told more in
     let nothing : length (to_come old).marks ≡ 0 = ap length none in
     no_length more (omega arith)
+
+-- where nothing was to come, what was read before is all
+pub body_same : (head : ReadRequest) (marks : List Mark) (fed : List ℕ) (old new : State) (content longer : List ℕ) (reads : Reads request (asks head ∷ marks) fed false old) (is : content ≡ content_of marks)
+    (read : HasRead progress.Missing old content new longer) → (to_come old).marks ≡ [] → (body_shown progress.Missing head marks fed old new content longer reads is read).0 ≡ marks
+unfolding body_shown
+body_same head marks fed old new content longer reads is read none =
+    let m = read.collects.marks in
+    let given : m ≡ [] = no_more_read request (asks head ∷ marks) m fed false old new reads (read.collects.reads request (asks head ∷ marks) fed false reads) none in
+    ap (λ l. marks ++ l) given ∙ append-nil marks
 
 none_behind : (n m : ℕ) → m ≡ 0 → n + m ≡ n
 none_behind n m is = omega arith

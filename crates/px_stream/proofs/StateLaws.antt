@@ -26,11 +26,11 @@ not_yet false is = let no : Ends [] ≡ NotYet = is in cc
 -- a stage that waits looks for something
 looks_on : (terms : Terms) (at : At) (looked : Wanted) (seen : Sight) → look terms (stage_of at looked) seen ≡ NotYet → is_last (phase.Ready looked) ≡ false
 looks_on terms at ready.Idle seen waits = refl
-looks_on terms at (ready.RequestBody flow given body) seen waits = refl
-looks_on terms at (ready.Connection flow) seen waits = refl
-looks_on terms at (ready.ResponseHead flow server) seen waits = refl
-looks_on terms at (ready.ResponseBody flow server most body held) seen waits = refl
-looks_on terms at (ready.ComingDown flow server sent) seen waits = refl
+looks_on terms at (ready.RequestBody flow given most body held) seen waits = refl
+looks_on terms at (ready.Connection flow up) seen waits = refl
+looks_on terms at (ready.ResponseHead flow server up) seen waits = refl
+looks_on terms at (ready.ResponseBody flow server up most body held) seen waits = refl
+looks_on terms at (ready.ComingDown flow server up sent) seen waits = refl
 looks_on terms at (ready.Upgraded flow server) seen waits = absurd (not_yet seen.closed waits)
 looks_on terms at (ready.GivenHead flow) seen waits = refl
 looks_on terms at (ready.GivenBody flow) seen waits = refl
@@ -43,8 +43,8 @@ last_at None seen requests last is = ap (λ r. is_last (phase.Ready r)) is
 last_at (Some connects) seen requests last is = ap (λ r. is_last (phase.Ready r)) is.phase
 
 last_for : (doing : Doing) (seen : Sight) (requests : State) (side : Option Link) (last : Wanted) (flow : Flow) → IsLastFor flow doing seen requests side last → is_last (phase.Ready last) ≡ true
-last_for (request_body given) seen requests side last flow is = ap (λ r. is_last (phase.Ready r)) is
-last_for connection seen requests side last flow is = ap (λ r. is_last (phase.Ready r)) is
+last_for (request_body given most) seen requests side last flow is = ap (λ r. is_last (phase.Ready r)) is
+last_for (connection how) seen requests side last flow is = ap (λ r. is_last (phase.Ready r)) is
 last_for (response_head server how) seen requests side last flow is = ap (λ r. is_last (phase.Ready r)) is
 last_for (response_body server how most) seen requests side last flow is = ap (λ r. is_last (phase.Ready r)) is
 last_for (coming_down server how) seen requests side last flow is = ap (λ r. is_last (phase.Ready r)) is
@@ -68,12 +68,12 @@ module _ (terms : Terms) (at : At) (requests : State) (side : Option Link) (foun
   free_by (Ends owed) ask there is asks = let no : Ends owed ≡ Asks ask = asks in cc
 
   asks_by : (l : Look Command) (ask : Ask) → PhaseAt l terms at requests side found stage seen → awaited_in found ≡ Some ask → (command : Command) × (l ≡ Asks command)
-  asks_by NotYet ask (looked, sent, same, there, gave) is = absurd (let none : None ≡ Some ask = ap awaited_in (sym same) ∙ is in cc)
+  asks_by NotYet ask (looked, sent, same, there, gave, rests) is = absurd (let none : None ≡ Some ask = ap awaited_in (sym same) ∙ is in cc)
   asks_by (Asks command) ask there is = (command, refl)
   asks_by (Ends owed) ask (last, same, there) is = absurd (let none : None ≡ Some ask = ap awaited_in (sym same) ∙ is in cc)
 
   ends_by : (l : Look Command) → look terms stage seen ≡ l → PhaseAt l terms at requests side found stage seen → is_last found ≡ true → (owed : List Command) × (l ≡ Ends owed)
-  ends_by NotYet waits (looked, sent, same, there, gave) last =
+  ends_by NotYet waits (looked, sent, same, there, gave, rests) last =
       let going : is_last (phase.Ready looked) ≡ false = looks_on terms at looked seen (ap (λ s. look terms s seen) there.is_stage ∙ waits) in
       absurd (let no : false ≡ true = sym going ∙ (ap is_last (sym same) ∙ last) in cc)
   ends_by (Asks command) asks (asked, same, there) last = absurd (let no : false ≡ true = ap is_last (sym same) ∙ last in cc)

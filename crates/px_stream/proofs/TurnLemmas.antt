@@ -1,7 +1,7 @@
 -- An answer to what was asked leads where the chain leads, and the readers are there.
-use Rattle.std.proofs.Common.{◌≡◌, ℕ, ◌+◌, Bool, true, false, List, [], ◌∷◌, ◌++◌, Option, Some, None, refl, ap, sym, ◌∙◌, subst, arith}
+use Rattle.std.proofs.Common.{◌≡◌, ℕ, ◌+◌, ◌≤◌, Bool, true, false, ◌&&◌, List, [], ◌∷◌, ◌++◌, length, drop, Option, Some, None, refl, ap, sym, ◌∙◌, subst, arith}
 use Rattle.std.specs.Prelude.{◌==◌}
-use Rattle.px_message.specs.declared.fault.Fault.{Fault}
+use Rattle.std.proofs.lemmas.List.{append-nil}
 use Rattle.px_message.specs.declared.flow.Flow.{Flow}
 use Rattle.px_message.specs.declared.request.Request.{Request}
 use Rattle.px_message.specs.declared.response.Response.{Response}
@@ -11,12 +11,10 @@ use Rattle.px_event.specs.declared.command.Command.{Command}
 use Rattle.px_event.specs.declared.reply.Reply.{Reply}
 use Rattle.px_event.specs.declared.reply.Reply.TheVariants as reply
 use Rattle.px_event.specs.Chain.{Timed, Turn}
-use Rattle.px_read.specs.Chunks.{Finish, goes_on, whole, fails, Reading}
-use Rattle.px_read.specs.Items.{Item, missing, part, complete, bad_head, bad_body, answer_list}
+use Rattle.px_read.specs.Items.{Item, missing, part, complete, bad_head, bad_body}
 use Rattle.px_read.specs.Laws.{head_in}
 use Rattle.px_read.specs.Marks.{asks, answers}
-use Rattle.px_read.specs.Readings.{behind_bytes}
-use Rattle.px_read.specs.Reader.{Message, request, response, State, reading_from, behind_marks, before_all, Reads}
+use Rattle.px_read.specs.Reader.{request, State, before_all, Reads}
 use Rattle.px_read.specs.declared.head.RequestHead.{RequestHead as ReadRequest}
 use Rattle.px_read.specs.declared.head.ResponseHead.{ResponseHead as ReadResponse}
 use Rattle.px_exchange.specs.declared.asked.Judged.{Judged}
@@ -26,139 +24,33 @@ use Rattle.px_exchange.specs.declared.taken.Taken.{Taken}
 use Rattle.px_exchange.specs.declared.taken.Taken.TheVariants.{GoesOn, Responds, Kills}
 use Rattle.px_exchange.specs.declared.place.Place.{Place}
 use Rattle.px_exchange.specs.declared.terms.Terms.{Terms}
-use Rattle.px_exchange.specs.Dials.{dial_owes}
 use Rattle.px_exchange.specs.Endings.{connection_goes_on}
 use Rattle.px_exchange.specs.Flows.{response_of, with_answer, with_body, with_returned}
 use Rattle.px_exchange.specs.Places.{is_same_address, server_for}
-use Rattle.px_exchange.specs.Replies.{taken_at_body_of, taken_at_head_of, taken_at_request_body, taken_at_request_head, taken_at_response_body, taken_at_response_head}
+use Rattle.px_exchange.specs.Replies.{taken_at_request_body, taken_at_request_head, taken_at_response_body, taken_at_response_head}
 use Rattle.px_exchange.specs.Requests.{expects, flow_of, is_head, judged}
 use Rattle.px_exchange.specs.Texts.{interim_commands}
-use Rattle.px_chain.specs.Chain.{behind_flow, dial_leads, finish_by, given_at, goes_on_by, parked_for, sequence, side_if, turn, turn_answer, turn_answer_head, turn_body, turn_head, turn_judged, turn_response, turn_returned, turn_taken_answer, turn_taken_body, turn_taken_given, turn_taken_head, turn_taken_returned, turn_taken_whole, turns}
-use Rattle.px_chain.specs.Sights.{Sight, answers_in, client_left, dials_at, request_in, server_behind, server_in, server_left, server_parked, shut_behind, sight_behind}
-use Rattle.px_chain.specs.Stages.{At, Doing, Parked, Sent, Stage, all_sent, busy, coming_down, connection, given_body, given_head, idle, next, over, place_of, request_body, response_body, response_head, side_parked, unparked, upgraded}
+use Rattle.px_chain.specs.Behind.{dials_at, server_behind, shut_behind, sight_behind}
+use Rattle.px_chain.specs.Chain.{behind_flow, dial_leads, finish_by, given_at, gone_by, goes_on_by, parked_for, reached, sequence, side_if, turn, turn_answer, turn_answer_head, turn_body, turn_head, turn_judged, turn_response, turn_returned, turn_taken_answer, turn_taken_body, turn_taken_given, turn_taken_head, turn_taken_returned, turn_taken_whole, turns}
+use Rattle.px_chain.specs.Coming.{allowed_by}
+use Rattle.px_chain.specs.Going.{allowed_up_by, framed_up, going_text, is_sent, told_up}
+use Rattle.px_chain.specs.Sights.{Sight, answers_in, client_left, request_in, server_in, server_left, server_parked}
+use Rattle.px_chain.specs.Stages.{At, Doing, Parked, Sent, Stage, all_sent, busy, coming_down, connection, given_body, given_head, going_up, idle, next, over, place_of, request_body, response_body, response_head, side_parked, unparked, upgraded}
+use Rattle.px_stream.specs.declared.going.Going.{Going}
+use Rattle.px_stream.specs.declared.going.Sending.{Sending}
+use Rattle.px_stream.specs.declared.going.Sending.TheVariants as sending
 use Rattle.px_stream.specs.declared.link.Link.{Link}
 use Rattle.px_stream.specs.declared.phase.Asked.{Asked}
 use Rattle.px_stream.specs.declared.phase.Asked.TheVariants as asked
 use Rattle.px_stream.specs.declared.phase.Wanted.{Wanted}
 use Rattle.px_stream.specs.declared.phase.Wanted.TheVariants as ready
-use Rattle.px_stream.specs.Stands.{none_sent, AskedRequest, AskedSide, HasPlace, HasRequest, HasSide, IsAsked, IsOpen, Keeps, LinkKeeps, ReadsFinal, ReadsLink, ReadsReturn, answer_asked, asked_for, asked_in, body_asked, content_in, head_asked, judged_asked, marks_at, parked_link, returned_asked, sent_on, stage_of, unread_link, Holds, HoldsWhole, IsLink, IsSome, held_in}
-use Rattle.px_stream.proofs.AskLemmas.{dial_asked, used_of}
-use Rattle.px_stream.specs.declared.coming.Held.{Held}
-use Rattle.px_stream.specs.Comings.{IsHeldBy, may_stream}
-use Rattle.px_chain.specs.Coming.{allowed_by}
-use Rattle.px_stream.specs.Turns.{FirstHeld, HeldBehind, HeldFirst, Turned, asked_turn, is_dial, opened_side, requests_behind, side_behind, taken_turn, turned_by, unless_parked}
-
--- ---- the turn of a stage is that of what it asks
-
-by_body : (o : Option Response) (answer : Reply) (goes : Taken Response → Turn Stage Command) →
-    turn_response o (λ message. taken_at_response_body message answer) goes ≡ taken_turn (taken_at_body_of o answer) goes
-by_body None answer goes = refl
-by_body (Some message) answer goes = refl
-
-by_head : (o : Option Response) (answer : Reply) (goes : Taken Response → Turn Stage Command) →
-    turn_response o (λ message. taken_at_response_head message answer) goes ≡ taken_turn (taken_at_head_of o answer) goes
-by_head None answer goes = refl
-by_head (Some message) answer goes = refl
-
-module _ (terms : Terms) (seen : Sight) (answer : Timed Reply) where
-  abbrev Same : At → Used → Turn Stage Command → Option Asked → Type 0
-  Same at used turned found = turned ≡ turned_by terms at found seen used seen.closed answer
-
-  judged_same : (at : At) (used : Used) (head : ReadRequest) (made : Judged) → Same at used (turn_judged terms at head made seen answer) (judged_asked terms at head made seen.now)
-  judged_same at used head (Refused fault) = refl
-  judged_same at used head (Accepted message) = refl
-  judged_same at used head (Connects address) = refl
-
-  head_same : (at : At) (used : Used) (item : Item ReadRequest) → Same at used (turn_head terms at item seen answer) (head_asked terms at (head_in item) seen.now)
-  head_same at used missing = refl
-  head_same at used (part head body) = judged_same at used head (judged terms.place head)
-  head_same at used (complete head body trailers size) = judged_same at used head (judged terms.place head)
-  head_same at used (bad_head fault) = refl
-  head_same at used (bad_body fault head body) = judged_same at used head (judged terms.place head)
-
-  body_same : (at : At) (used : Used) (flow : Flow) (item : Item ReadRequest) → Same at used (turn_body terms.place at flow item seen answer) (body_asked flow item seen.now)
-  body_same at used flow missing = refl
-  body_same at used flow (part head body) = refl
-  body_same at used flow (complete head body trailers size) = refl
-  body_same at used flow (bad_head fault) = refl
-  body_same at used flow (bad_body fault head body) = refl
-
-  answer_same : (at : At) (flow : Flow) (server : ℕ) (item : Item ReadResponse) → Same at (server_in server seen) (turn_answer terms at flow server item seen answer) (answer_asked flow server (head_in item) seen.now)
-  answer_same at flow server missing = refl
-  answer_same at flow server (part head body) = refl
-  answer_same at flow server (complete head body trailers size) = refl
-  answer_same at flow server (bad_head fault) = refl
-  answer_same at flow server (bad_body fault head body) = refl
-
-  returned_same : (at : At) (flow : Flow) (server : ℕ) (item : Item ReadResponse) → Same at (server_in server seen) (turn_returned at flow server item seen answer) (returned_asked flow server item seen.now)
-  returned_same at flow server missing = refl
-  returned_same at flow server (part head body) = refl
-  returned_same at flow server (complete head body trailers size) =
-      by_body (with_returned flow body.content trailers seen.now).response answer.value
-      (λ taken. turn_taken_whole at (with_returned flow body.content trailers seen.now) server taken answer.moment (server_in server seen) seen.closed)
-  returned_same at flow server (bad_head fault) = refl
-  returned_same at flow server (bad_body fault head body) = refl
-
-  same_for : (at : At) (flow : Flow) (doing : Doing) → Same at (used_of (busy at flow doing) seen) (turns terms at flow doing seen answer) (asked_for at flow doing seen)
-  same_for at flow (request_body given) = body_same at (server_parked at.parked seen) flow (request_in seen)
-  same_for at flow connection = refl
-  same_for at flow (response_head server how) = answer_same at flow server (answers_in flow.request seen).final
-  same_for at flow (response_body server how most) = returned_same at flow server (answers_in flow.request seen).final
-  same_for at flow (coming_down server how) = refl
-  same_for at flow (upgraded server) = refl
-  same_for at flow given_head =
-      by_head (given_at flow seen.now).response answer.value
-      (λ taken. turn_taken_given at (given_at flow seen.now) taken answer.moment (server_parked at.parked seen) seen.closed)
-  same_for at flow given_body =
-      by_body flow.response answer.value
-      (λ taken. turn_taken_returned at flow taken answer.moment (server_parked at.parked seen) seen.closed)
-
-  pub turn_asked : (stage : Stage) (found : Asked) → asked_in terms stage seen ≡ Some found →
-      turn terms stage seen answer ≡ asked_turn terms (place_of stage) found seen (used_of stage seen) seen.closed answer
-  turn_asked (idle at) found is =
-      head_same at (server_parked at.parked seen) (request_in seen) ∙ ap (λ o. turned_by terms at o seen (server_parked at.parked seen) seen.closed answer) is
-  turn_asked (busy at flow doing) found is = same_for at flow doing ∙ ap (λ o. turned_by terms at o seen (used_of (busy at flow doing) seen) seen.closed answer) is
-  turn_asked (next at) found is = absurd (let no : None ≡ Some found = is in cc)
-  turn_asked over found is = absurd (let no : None ≡ Some found = is in cc)
-
--- ---- a server's side of which all is to be read
-
-no_bytes_by : (f : Finish) → f ≡ behind_bytes 0 f
-no_bytes_by goes_on = refl
-no_bytes_by (whole trailers used) = let e : used ≡ 0 + used = omega arith in ap (λ n. whole trailers n) e
-no_bytes_by (fails fault) = refl
-
-pub same_reading : (r : Reading) → r ≡ behind_marks [] 0 r
-same_reading r = ap (λ f. let s : Reading = record { marks = r.marks; finish = f } in s) (no_bytes_by r.finish)
-
--- a reader that begins, with these bytes
-pub reads_first : (message : Message) (bytes : List ℕ) (shut : Bool) → Reads message [] bytes shut (before_all message bytes shut)
-reads_first message bytes shut = record {
-  closed = refl;
-  used = [];
-  bytes = refl;
-  reading = λ more later follows. same_reading (reading_from (before_all message bytes shut).place later (bytes ++ more));
-}
-
-none_before : (n : ℕ) → n ≡ 0 + n
-none_before n = omega arith
-
-pub unread_reads : (asked_head : Bool) (number : ℕ) (bytes : List ℕ) (shut : Bool) → ReadsLink asked_head number bytes shut [] [] (unread_link number asked_head bytes shut)
-unread_reads asked_head number bytes shut = record {
-  server = refl;
-  is_asked = refl;
-  closed = refl;
-  fed = bytes;
-  passes = record {
-    used = 0;
-    within = omega arith;
-    behind = refl;
-    counts = λ closed more. none_before (answer_list asked_head closed (bytes ++ more)).used;
-    interim = λ closed more. refl;
-    final = λ closed more. refl;
-  };
-  reads = reads_first (response asked_head) bytes shut;
-}
+use Rattle.px_stream.specs.Goings.{sends_to, sends_while, sent_by, sent_of, up_text}
+use Rattle.px_stream.specs.Stands.{AskedRequestFor, AskedSide, AskedUp, GoesOnUp, HasPlace, HasRequest, HasSide, Holds, IsAsked, IsLink, IsOpen, IsRead, Keeps, LinkKeeps, ReadsFinal, ReadsLink, ReadsReturn, SentOn, WaitsUp, answer_asked, asked_for, bare, content_in, going_asked, going_in, head_asked, held_in, judged_asked, marks_at, none_sent, parked_link, sent_asked, sent_at, sent_doing, sent_on, stage_of, unread_link, up_asked, up_in}
+use Rattle.px_stream.specs.Turns.{FirstHeld, GoesUpFrom, HeldFirst, HeldUpFirst, KeepsUp, Turned, connected_up, dialled_sends, first_sent, going_sent, is_dial, opened_side, requests_behind, side_behind, unless_parked}
+use Rattle.px_stream.proofs.AskLemmas.{dial_asked}
+use Rattle.px_stream.proofs.FirstLemmas.{all_going, all_up, body_first, body_from, head_from, how_is, judged_read, return_first}
+use Rattle.px_stream.proofs.UnreadLemmas.{reads_first, unread_reads}
+use Rattle.px_stream.proofs.WentUpLemmas.{all_text}
 
 -- the next request begins with what waits
 again_reads : (bytes : List ℕ) (requests : State) → Keeps bytes requests → Reads request [] bytes false (before_all request requests.rest false)
@@ -174,260 +66,430 @@ no_commands message = no_commands_by message.version message refl
 
 pub sent_none : (stage : Stage) → sent_on stage none_sent ≡ []
 sent_none (idle at) = refl
-sent_none (busy at flow (request_body given)) = refl
-sent_none (busy at flow connection) = refl
-sent_none (busy at flow (response_head server how)) = no_commands flow.request
-sent_none (busy at flow (response_body server how most)) = refl
-sent_none (busy at flow (coming_down server how)) = refl
+sent_none (busy at flow (request_body given most)) = refl
+sent_none (busy at flow (connection how)) = refl
+sent_none (busy at flow (response_head server all_sent)) = no_commands flow.request
+sent_none (busy at flow (response_head server going_up)) = no_commands flow.request
+sent_none (busy at flow (response_body server all_sent most)) = refl
+sent_none (busy at flow (response_body server going_up most)) = refl
+sent_none (busy at flow (coming_down server all_sent)) = refl
+sent_none (busy at flow (coming_down server going_up)) = refl
 sent_none (busy at flow (upgraded server)) = refl
 sent_none (busy at flow given_head) = refl
 sent_none (busy at flow given_body) = refl
 sent_none (next at) = refl
 sent_none over = refl
 
--- ---- what is held where a response's body is first looked for
-
-first_holds : (b : Bool) (flow : Flow) (message : Response) (most : Option ℕ) (head : ReadResponse) (held : Option Held) → may_stream (is_head flow.request.method) (response_of head) message most ≡ b →
-    flow.response ≡ Some message → IsHeldBy b (response_of head) held → Holds flow most head [] held
-first_holds false flow message most head None is given held = subst (HoldsWhole flow most head) (sym given) is
-first_holds true flow message most head None is given held = absurd held
-first_holds false flow message most head (Some kept) is given held = absurd held
-first_holds true flow message most head (Some kept) is given held = (subst (λ (o : Option Response). IsSome o) (sym given) tt, held.0, held.1)
-
-first_by : (flow : Flow) (o : Option Response) (most : Option ℕ) (head : ReadResponse) (held : Option Held) → flow.response ≡ o → HeldBehind flow (Some (response_of head)) o most held → Holds flow most head [] held
-first_by flow None most head held is first = absurd first
-first_by flow (Some message) most head held is first = first_holds (may_stream (is_head flow.request.method) (response_of head) message most) flow message most head held refl is first
-
-return_first : (looked : Wanted) (here at : At) (told : Flow) (server : ℕ) (most : Option ℕ) (head : ReadResponse) → stage_of here looked ≡ busy at told (response_body server all_sent most) →
-    HeldFirst (Some (response_of head)) looked → Holds told most head [] (held_in looked)
-return_first (ready.ResponseBody flow number size body held) here at told server most head is first =
-    let e : busy here flow (response_body number all_sent size) ≡ busy at told (response_body server all_sent most) = is in
-    let one : flow ≡ told = cc in
-    let two : size ≡ most = cc in
-    subst (λ f. Holds f most head [] held) one (subst (λ m. Holds flow m head [] held) two (first_by flow flow.response size head held refl first))
-return_first (ready.RequestBody flow given body) here at told server most head is first = absurd (let no : stage_of here (ready.RequestBody flow given body) ≡ busy at told (response_body server all_sent most) = is in cc)
-return_first (ready.Connection flow) here at told server most head is first = absurd (let no : stage_of here (ready.Connection flow) ≡ busy at told (response_body server all_sent most) = is in cc)
-return_first (ready.ResponseHead flow number) here at told server most head is first = absurd (let no : stage_of here (ready.ResponseHead flow number) ≡ busy at told (response_body server all_sent most) = is in cc)
-return_first (ready.ComingDown flow number sent) here at told server most head is first = absurd (let no : stage_of here (ready.ComingDown flow number sent) ≡ busy at told (response_body server all_sent most) = is in cc)
-return_first (ready.Upgraded flow number) here at told server most head is first = absurd (let no : stage_of here (ready.Upgraded flow number) ≡ busy at told (response_body server all_sent most) = is in cc)
-return_first (ready.GivenHead flow) here at told server most head is first = absurd (let no : stage_of here (ready.GivenHead flow) ≡ busy at told (response_body server all_sent most) = is in cc)
-return_first (ready.GivenBody flow) here at told server most head is first = absurd (let no : stage_of here (ready.GivenBody flow) ≡ busy at told (response_body server all_sent most) = is in cc)
-return_first ready.Idle here at told server most head is first = absurd (let no : stage_of here ready.Idle ≡ busy at told (response_body server all_sent most) = is in cc)
-return_first (ready.Connects address) here at told server most head is first = absurd (let no : stage_of here (ready.Connects address) ≡ busy at told (response_body server all_sent most) = is in cc)
-return_first ready.Over here at told server most head is first = absurd (let no : stage_of here ready.Over ≡ busy at told (response_body server all_sent most) = is in cc)
-
 -- ---- the readers where it leads
 
 -- in the sight behind the reply they are where the stage looks
-abbrev LedTo : Stage → Sight → ℕ → State → Option Link → Wanted → Stage → Type 0
-LedTo from seen moment requests side looked to =
-    HasRequest to (sight_behind from seen moment to) [] (requests_behind to requests) × HasSide to (sight_behind from seen moment to) none_sent looked (side_behind (dials_at from) to side)
+abbrev LedTo : Terms → Stage → Sight → ℕ → State → Option Link → Wanted → SentOn → Stage → Type 0
+LedTo terms from seen moment requests side looked sent to =
+    HasRequest terms to (sight_behind terms.place from seen moment to) sent.up looked (requests_behind to requests) × HasSide to (sight_behind terms.place from seen moment to) sent looked (side_behind (dials_at from) to side)
 
 -- the parked side stays
-kept_parked : (parked : Option Parked) (seen : Sight) (side : Option Link) (client : List ℕ) (closed : Bool) (now : ℕ) → side ≡ parked_link parked seen →
+kept_parked : (parked : Option Parked) (seen : Sight) (side : Option Link) (client : List ℕ) (closed : Bool) (told now : ℕ) → side ≡ parked_link parked seen →
     unless_parked parked side
-    ≡ parked_link parked (record { client = client; closed = closed; server = server_behind false (side_parked parked) seen.server; shut = shut_behind false (side_parked parked) seen.shut; now = now })
-kept_parked None seen side client closed now is = refl
-kept_parked (Some parked) seen side client closed now is = is
+    ≡ parked_link parked (record { client = client; closed = closed; server = server_behind false (side_parked parked) seen.server; shut = shut_behind false (side_parked parked) seen.shut; told = told; now = now })
+kept_parked None seen side client closed told now is = refl
+kept_parked (Some parked) seen side client closed told now is = is
 
-module _ (terms : Terms) (seen : Sight) (answer : Timed Reply) (requests : State) (side : Option Link) (looked : Wanted) (no_content : content_in looked ≡ []) where
+-- a question, but for how the request stands
+idle_same : (found : Asked) (flow : Flow) (expects : Bool) (looked : Wanted) → asked.Idle flow expects ≡ bare found → FirstHeld found looked → HeldUpFirst flow.request looked
+idle_same (asked.Idle own waits) flow expects looked is first = let one : own ≡ flow = cc in subst (λ (f : Flow). HeldUpFirst f.request looked) one first
+idle_same (asked.RequestBody own) flow expects looked is first = absurd (cc)
+idle_same (asked.Connection own server up) flow expects looked is first = absurd (let no : asked.Idle flow expects ≡ asked.Connection own server None = is in cc)
+idle_same (asked.ResponseHead own server up) flow expects looked is first = absurd (let no : asked.Idle flow expects ≡ asked.ResponseHead own server sending.All = is in cc)
+idle_same (asked.ResponseBody own server up) flow expects looked is first = absurd (let no : asked.Idle flow expects ≡ asked.ResponseBody own server sending.All = is in cc)
+idle_same (asked.GivenHead own) flow expects looked is first = absurd (cc)
+idle_same (asked.GivenBody own) flow expects looked is first = absurd (cc)
+
+answer_same : (found : Asked) (flow : Flow) (server : ℕ) (looked : Wanted) → asked.ResponseHead flow server sending.All ≡ bare found → FirstHeld found looked → KeepsUp found looked →
+    HeldFirst flow.response looked × GoesUpFrom (up_asked found) looked
+answer_same (asked.ResponseHead own number up) flow server looked is first goes =
+    let e : asked.ResponseHead flow server sending.All ≡ asked.ResponseHead own number sending.All = is in
+    let one : own ≡ flow = cc in (subst (λ (f : Flow). HeldFirst f.response looked) one first, goes)
+answer_same (asked.Idle own waits) flow server looked is first goes = absurd (cc)
+answer_same (asked.RequestBody own) flow server looked is first goes = absurd (cc)
+answer_same (asked.Connection own number up) flow server looked is first goes = absurd (let no : asked.ResponseHead flow server sending.All ≡ asked.Connection own number None = is in cc)
+answer_same (asked.ResponseBody own number up) flow server looked is first goes = absurd (let no : asked.ResponseHead flow server sending.All ≡ asked.ResponseBody own number sending.All = is in cc)
+answer_same (asked.GivenHead own) flow server looked is first goes = absurd (cc)
+answer_same (asked.GivenBody own) flow server looked is first goes = absurd (cc)
+
+dial_same : (found : Asked) (flow : Flow) (server : ℕ) (looked : Wanted) → asked.Connection flow server None ≡ bare found → KeepsUp found looked → GoesUpFrom (connected_up (going_asked found)) looked
+dial_same (asked.Connection own number up) flow server looked is goes = goes
+dial_same (asked.Idle own waits) flow server looked is goes = absurd (cc)
+dial_same (asked.RequestBody own) flow server looked is goes = absurd (cc)
+dial_same (asked.ResponseHead own number up) flow server looked is goes = absurd (let no : asked.Connection flow server None ≡ asked.ResponseHead own number sending.All = is in cc)
+dial_same (asked.ResponseBody own number up) flow server looked is goes = absurd (let no : asked.Connection flow server None ≡ asked.ResponseBody own number sending.All = is in cc)
+dial_same (asked.GivenHead own) flow server looked is goes = absurd (cc)
+dial_same (asked.GivenBody own) flow server looked is goes = absurd (cc)
+
+-- where the server of a request is connected that goes up, its text is sent
+abbrev text_going : Option Going → List ℕ
+text_going None = []
+text_going (Some going) = going.text.items
+
+abbrev text_first : Option Going → Reply → List ℕ
+text_first up reply.Dialled = text_going up
+text_first up answer = []
+
+no_less : (n : ℕ) → 0 ≤ n
+no_less n = omega arith
+
+none_more : (n m : ℕ) → n ≡ m → n ≤ m
+none_more n m is = omega arith
+
+drop_all : (l : List ℕ) → drop (length l) l ≡ []
+drop_all [] = refl
+drop_all (b ∷ l) = drop_all l
+
+some_asked : (one other : Asked) → Some one ≡ Some other → one ≡ other
+some_asked one other is = cc
+
+bare_dial : (found : Asked) → is_dial (bare found) ≡ true → is_dial found ≡ true
+bare_dial (asked.Idle flow expects) is = is
+bare_dial (asked.RequestBody flow) is = is
+bare_dial (asked.Connection flow server up) is = refl
+bare_dial (asked.ResponseHead flow server up) is = is
+bare_dial (asked.ResponseBody flow server up) is = is
+bare_dial (asked.GivenHead flow) is = is
+bare_dial (asked.GivenBody flow) is = is
+
+sent_up : (found : Asked) → is_dial found ≡ false → sent_asked found ≡ sent_of (up_asked found)
+sent_up (asked.Idle flow expects) none = refl
+sent_up (asked.RequestBody flow) none = refl
+sent_up (asked.Connection flow server up) none = absurd (let no : true ≡ false = none in cc)
+sent_up (asked.ResponseHead flow server up) none = refl
+sent_up (asked.ResponseBody flow server up) none = refl
+sent_up (asked.GivenHead flow) none = refl
+sent_up (asked.GivenBody flow) none = refl
+
+-- where no server is connected nothing is sent at first
+none_first : (at : At) (found : Asked) (answer : Reply) → is_dial found ≡ false → first_sent at found answer ≡ []
+none_first at (asked.Idle flow expects) answer none = refl
+none_first at (asked.RequestBody flow) answer none = refl
+none_first at (asked.Connection flow server up) answer none = absurd (let no : true ≡ false = none in cc)
+none_first at (asked.ResponseHead flow server up) answer none = refl
+none_first at (asked.ResponseBody flow server up) answer none = refl
+none_first at (asked.GivenHead flow) answer none = refl
+none_first at (asked.GivenBody flow) answer none = refl
+
+-- and what is sent where one is
+dial_text : (message : Request) (server : ℕ) (up : Option Going) → sends_while (sent_by up) server (text_going up) ++ interim_commands message [] ≡ going_sent server up
+dial_text message server None = no_commands message
+dial_text message server (Some going) = ap (λ l. sends_to server going.text.items ++ l) (no_commands message) ∙ append-nil (sends_to server going.text.items)
+
+dial_sent : (place : Place) (at : At) (flow : Flow) (up : Option Going) (answer : Reply) →
+    sent_on (sequence (dial_leads place at flow (sent_by up) answer)) (record none_sent { up = text_first up answer }) ≡ dialled_sends at.dials up answer
+dial_sent place at flow up reply.Dialled = dial_text flow.request at.dials up
+dial_sent place at flow up (reply.Refused fault) = refl
+dial_sent place at flow up (reply.Go told stream) = refl
+dial_sent place at flow up (reply.Respond given) = refl
+dial_sent place at flow up reply.Kill = refl
+dial_sent place at flow up reply.Discard = refl
+
+module _ (terms : Terms) (seen : Sight) (answer : Timed Reply) (requests : State) (side : Option Link) (looked : Wanted) (no_content : content_in looked ≡ []) (here : At) where
   abbrev Led : Stage → Turn Stage Command → Type 0
-  Led from turned = LedTo from seen answer.moment requests side looked (sequence turned.stage)
+  Led from turned = stage_of here looked ≡ sequence turned.stage → LedTo terms from seen answer.moment requests side looked none_sent (sequence turned.stage)
 
-  taken_head_led : (at : At) (flow : Flow) (expected : Bool) (taken : Taken Request) (head : ReadRequest) → Reads request (asks head ∷ []) seen.client false requests → side ≡ parked_link at.parked seen →
-      Led (idle at) (turn_taken_head at flow expected taken answer.moment seen)
-  taken_head_led at flow expected (GoesOn message) head reads parked =
-      (record { head = head; marks = []; is_content = refl; reads = reads }, kept_parked at.parked seen side seen.client seen.closed answer.moment parked)
-  taken_head_led at flow expected (Responds given) head reads parked =
-      (record { head = head; marks = []; is_content = refl; reads = reads }, kept_parked at.parked seen side seen.client seen.closed answer.moment parked)
-  taken_head_led at flow expected Kills head reads parked = (tt, tt)
+  -- all of the request was sent
+  waits_all : (at : At) (told : Flow) (sees : Sight) (rests : State) → stage_of here looked ≡ busy at told (connection all_sent) → Keeps sees.client rests → WaitsUp terms told sees (going_in looked) rests
+  waits_all at told sees rests leads keeps =
+      subst (λ o. WaitsUp terms told sees o rests) (sym (all_going looked (sym (how_is here looked) ∙ ap sent_at leads))) keeps
 
-  judged_led : (at : At) (head : ReadRequest) (made : Judged) → Reads request (asks head ∷ []) seen.client false requests → side ≡ parked_link at.parked seen →
-      Led (idle at) (turn_judged terms at head made seen answer)
-  judged_led at head (Refused fault) reads parked = (tt, tt)
-  judged_led at head (Connects address) reads parked = (tt, tt)
-  judged_led at head (Accepted message) reads parked =
-      taken_head_led at (flow_of terms at.flow message seen.now) (expects head) (taken_at_request_head message answer.value) head reads parked
+  goes_all : (to : Stage) (told : Flow) (sees : Sight) (rests : State) → stage_of here looked ≡ to → sent_at to ≡ all_sent → Keeps sees.client rests → GoesOnUp terms told sees (up_in looked) [] rests
+  goes_all to told sees rests leads all keeps =
+      subst (λ u. GoesOnUp terms told sees u [] rests) (sym (all_up looked (sym (how_is here looked) ∙ (ap sent_at leads ∙ all)))) keeps
 
-  head_led : (at : At) (item : Item ReadRequest) → Reads request (marks_at (head_in item)) seen.client false requests → side ≡ parked_link at.parked seen → Led (idle at) (turn_head terms at item seen answer)
-  head_led at missing reads parked = (tt, tt)
-  head_led at (part head body) reads parked = judged_led at head (judged terms.place head) reads parked
-  head_led at (complete head body trailers size) reads parked = judged_led at head (judged terms.place head) reads parked
-  head_led at (bad_head fault) reads parked = (tt, tt)
-  head_led at (bad_body fault head body) reads parked = judged_led at head (judged terms.place head) reads parked
+  taken_head_led : (at : At) (flow : Flow) (expected : Bool) (most : Option ℕ) (taken : Taken Request) (head : ReadRequest) → IsRead head flow.request → HeldUpFirst flow.request looked →
+      Reads request (asks head ∷ []) seen.client false requests → side ≡ parked_link at.parked seen → Led (idle at) (turn_taken_head at flow expected most taken answer.moment seen)
+  taken_head_led at flow expected most (GoesOn message) head was first reads parked leads = (
+    record {
+      head = head;
+      marks = [];
+      is_content = no_content;
+      holds = body_first looked here at (record flow { request = message }) None most head flow.request was leads first;
+      untold = refl;
+      reads = reads;
+    },
+    kept_parked at.parked seen side seen.client seen.closed 0 answer.moment parked,
+  )
+  taken_head_led at flow expected most (Responds given) head was first reads parked leads = (
+    record {
+      head = head;
+      marks = [];
+      is_content = no_content;
+      holds = body_first looked here at flow (Some given) None head flow.request was leads first;
+      untold = refl;
+      reads = reads;
+    },
+    kept_parked at.parked seen side seen.client seen.closed 0 answer.moment parked,
+  )
+  taken_head_led at flow expected most Kills head was first reads parked leads = (tt, tt)
 
-  module _ (at : At) (flow : Flow) (given : Option Response) (keeps : Keeps (client_left (busy at flow (request_body given)) seen) requests) (parked : side ≡ parked_link at.parked seen) where
+  judged_led : (at : At) (head : ReadRequest) (made : Judged) (found : Asked) → judged terms.place head ≡ made → judged_asked terms at head made seen.now ≡ Some (bare found) → FirstHeld found looked →
+      Reads request (asks head ∷ []) seen.client false requests → side ≡ parked_link at.parked seen → Led (idle at) (turn_judged terms at head made seen answer)
+  judged_led at head (Refused fault) found made is first reads parked leads = (tt, tt)
+  judged_led at head (Connects address) found made is first reads parked leads = (tt, tt)
+  judged_led at head (Accepted message) found made is first reads parked leads =
+      let flow : Flow = flow_of terms at.flow message seen.now in
+      let one : asked.Idle flow (expects head) ≡ bare found = (let e : Some (asked.Idle flow (expects head)) ≡ Some (bare found) = is in cc) in
+      taken_head_led at flow (expects head) (allowed_up_by terms.streams answer.value) (taken_at_request_head message answer.value) head (judged_read terms.place head message made) (idle_same found flow (expects head) looked one first)
+      reads parked leads
+
+  head_led : (at : At) (item : Item ReadRequest) (found : Asked) → head_asked terms at (head_in item) seen.now ≡ Some (bare found) → FirstHeld found looked → Reads request (marks_at (head_in item)) seen.client false requests →
+      side ≡ parked_link at.parked seen → Led (idle at) (turn_head terms at item seen answer)
+  head_led at missing found is first reads parked leads = (tt, tt)
+  head_led at (part head body) found is first reads parked leads = judged_led at head (judged terms.place head) found refl is first reads parked leads
+  head_led at (complete head body trailers size) found is first reads parked leads = judged_led at head (judged terms.place head) found refl is first reads parked leads
+  head_led at (bad_head fault) found is first reads parked leads = (tt, tt)
+  head_led at (bad_body fault head body) found is first reads parked leads = judged_led at head (judged terms.place head) found refl is first reads parked leads
+
+  module _ (at : At) (flow : Flow) (given : Option Response) (most : Option ℕ) (keeps : Keeps (client_left (busy at flow (request_body given most)) seen) requests) (parked : side ≡ parked_link at.parked seen) where
     abbrev bodies : Stage
-    bodies = busy at flow (request_body given)
+    bodies = busy at flow (request_body given most)
 
-    goes_to : (to_it : Bool) (here : Parked) (told : Flow) → at.parked ≡ Some here → Led bodies (goes_on_by (side_if to_it here.server) terms.place at told)
-    goes_to true here told is =
+    goes_to : (to_it : Bool) (there : Parked) (told : Flow) → at.parked ≡ Some there → Led bodies (goes_on_by (side_if to_it there.server) terms.place at told)
+    goes_to true there told is leads =
         let asked_head : Bool = is_head told.request.method in
-        let opened : side ≡ Some (unread_link here.server false seen.server seen.shut) = parked ∙ ap (λ o. parked_link o seen) is in (
-          record { rest = keeps.rest; open_still = keeps.open_still },
-          subst (λ s. IsOpen (ReadsLink asked_head here.server seen.server seen.shut [] []) (opened_side false here.server asked_head s)) (sym opened) (unread_reads asked_head here.server seen.server seen.shut),
+        let to : Stage = busy (unparked at) (reached terms.place told) (response_head there.server all_sent) in
+        let opened : side ≡ Some (unread_link there.server false seen.server seen.shut) = parked ∙ ap (λ o. parked_link o seen) is in (
+          goes_all to (reached terms.place told) (sight_behind terms.place bodies seen answer.moment to) requests leads refl keeps,
+          subst (λ s. IsOpen (ReadsLink asked_head there.server seen.server seen.shut [] []) (opened_side false there.server asked_head s)) (sym opened) (unread_reads asked_head there.server seen.server seen.shut),
         )
-    goes_to false here told is =
-        (record { rest = keeps.rest; open_still = keeps.open_still }, kept_parked at.parked seen side (client_left bodies seen) seen.closed answer.moment parked)
+    goes_to false there told is leads = (
+      waits_all at told (sight_behind terms.place bodies seen answer.moment (busy at told (connection all_sent))) requests leads keeps,
+      kept_parked at.parked seen side (client_left bodies seen) seen.closed 0 answer.moment parked,
+    )
 
-    goes_on_led : (here : Option Parked) (message : Request) (told : Flow) → at.parked ≡ here → Led bodies (goes_on_by (parked_for terms.place message here) terms.place at told)
-    goes_on_led None message told is =
-        (record { rest = keeps.rest; open_still = keeps.open_still }, kept_parked at.parked seen side (client_left bodies seen) seen.closed answer.moment parked)
-    goes_on_led (Some here) message told is = goes_to (is_same_address here.address (server_for terms.place message)) here told is
+    goes_on_led : (there : Option Parked) (message : Request) (told : Flow) → at.parked ≡ there → Led bodies (goes_on_by (parked_for terms.place message there) terms.place at told)
+    goes_on_led None message told is leads = (
+      waits_all at told (sight_behind terms.place bodies seen answer.moment (busy at told (connection all_sent))) requests leads keeps,
+      kept_parked at.parked seen side (client_left bodies seen) seen.closed 0 answer.moment parked,
+    )
+    goes_on_led (Some there) message told is leads = goes_to (is_same_address there.address (server_for terms.place message)) there told is leads
 
     taken_body_led : (told : Flow) (taken : Taken Request) → Led bodies (turn_taken_body terms.place at told taken answer.moment seen)
-    taken_body_led told (GoesOn message) = goes_on_led at.parked message (record told { request = message }) refl
-    taken_body_led told (Responds instead) =
-        (record { rest = keeps.rest; open_still = keeps.open_still }, kept_parked at.parked seen side (client_left bodies seen) seen.closed answer.moment parked)
-    taken_body_led told Kills = (tt, tt)
+    taken_body_led told (GoesOn message) leads = goes_on_led at.parked message (record told { request = message }) refl leads
+    taken_body_led told (Responds instead) leads =
+        (record { rest = keeps.rest; open_still = keeps.open_still; behind = keeps.behind }, kept_parked at.parked seen side (client_left bodies seen) seen.closed 0 answer.moment parked)
+    taken_body_led told Kills leads = (tt, tt)
 
     body_led : (item : Item ReadRequest) → Led bodies (turn_body terms.place at flow item seen answer)
-    body_led missing = (tt, tt)
-    body_led (part head body) = (tt, tt)
-    body_led (complete head body trailers size) =
-        let told : Flow = with_body flow body.content trailers seen.now in taken_body_led told (taken_at_request_body told.request answer.value)
-    body_led (bad_head fault) = (tt, tt)
-    body_led (bad_body fault head body) = (tt, tt)
+    body_led missing leads = (tt, tt)
+    body_led (part head body) leads = (tt, tt)
+    body_led (complete head body trailers size) leads =
+        let told : Flow = with_body flow body.content trailers seen.now in taken_body_led told (taken_at_request_body told.request answer.value) leads
+    body_led (bad_head fault) leads = (tt, tt)
+    body_led (bad_body fault head body) leads = (tt, tt)
 
-  dial_led : (at : At) (flow : Flow) (value : Reply) → Keeps seen.client requests → LedTo (busy at flow connection) seen answer.moment requests side looked (sequence (dial_leads terms.place at flow value))
-  dial_led at flow reply.Dialled keeps = (record { rest = keeps.rest; open_still = keeps.open_still }, unread_reads (is_head flow.request.method) at.dials [] false)
-  dial_led at flow (reply.Refused fault) keeps = (tt, tt)
-  dial_led at flow (reply.Go told stream) keeps = (tt, tt)
-  dial_led at flow (reply.Respond given) keeps = (tt, tt)
-  dial_led at flow reply.Kill keeps = (tt, tt)
-  dial_led at flow reply.Discard keeps = (tt, tt)
+  -- ---- the server is connected
 
-  module _ (at : At) (flow : Flow) (server : ℕ) (most : Option ℕ) (keeps : Keeps seen.client requests) where
+  module _ (at : At) (flow : Flow) (how : Sent) where
+    abbrev dials : Stage
+    dials = busy at flow (connection how)
+
+    abbrev sees_dialled : Sight
+    sees_dialled = sight_behind terms.place dials seen answer.moment (busy (record at { dials = at.dials + 1; parked = None }) (reached terms.place flow) (response_head at.dials how))
+
+    dialled_up : (up : Option Going) → WaitsUp terms flow seen up requests → GoesOnUp terms (reached terms.place flow) sees_dialled (connected_up up) (text_going up) requests
+    dialled_up None waits = waits
+    dialled_up (Some going) waits = record {
+      marks = waits.marks;
+      going_on = record { head = waits.going_on.head; sent_as = waits.going_on.sent_as; reads = waits.going_on.reads };
+      within = no_less (length (up_text terms.place (Some going.sent) waits.marks));
+      is_text = waits.is_text;
+    }
+
+    dial_led : (up : Option Going) (value : Reply) → WaitsUp terms flow seen up requests → GoesUpFrom (connected_up up) looked → stage_of here looked ≡ sequence (dial_leads terms.place at flow how value) →
+        LedTo terms dials seen answer.moment requests side looked (record none_sent { up = text_first up value }) (sequence (dial_leads terms.place at flow how value))
+    dial_led up reply.Dialled waits goes leads = (
+      subst (λ u. GoesOnUp terms (reached terms.place flow) sees_dialled u (text_going up) requests) (sym (head_from looked here (record at { dials = at.dials + 1; parked = None }) (reached terms.place flow) at.dials how (connected_up up) leads goes))
+          (dialled_up up waits),
+      unread_reads (is_head flow.request.method) at.dials [] false,
+    )
+    dial_led up (reply.Refused fault) waits goes leads = (tt, tt)
+    dial_led up (reply.Go told stream) waits goes leads = (tt, tt)
+    dial_led up (reply.Respond given) waits goes leads = (tt, tt)
+    dial_led up reply.Kill waits goes leads = (tt, tt)
+    dial_led up reply.Discard waits goes leads = (tt, tt)
+
+  -- ---- a response's head
+
+  module _ (at : At) (flow : Flow) (server : ℕ) (how : Sent) where
     abbrev heads : Stage
-    heads = busy at flow (response_head server all_sent)
+    heads = busy at flow (response_head server how)
 
-    behind_head : (size : Option ℕ) (head : ReadResponse) (told : Flow) (here : At) → told.request ≡ flow.request → head_in (answers_in flow.request seen).final ≡ Some head → HeldFirst (Some (response_of head)) looked →
-        stage_of here looked ≡ busy at told (response_body server all_sent size) → (s : Option Link) → IsOpen (ReadsFinal flow.request server seen) s →
-        IsOpen (ReadsReturn told server size (sight_behind heads seen answer.moment (busy at told (response_body server all_sent size))) (content_in looked) (held_in looked)) s
-    behind_head size head told here same stands first leads None is = absurd is
-    behind_head size head told here same stands first leads (Some link) is =
+    behind_head : (size : Option ℕ) (head : ReadResponse) (told : Flow) → told.request ≡ flow.request → head_in (answers_in flow.request seen).final ≡ Some head → HeldFirst (Some (response_of head)) looked →
+        stage_of here looked ≡ busy at told (response_body server how size) → (s : Option Link) → IsOpen (ReadsFinal flow.request server seen) s →
+        IsOpen (ReadsReturn told server size (sight_behind terms.place heads seen answer.moment (busy at told (response_body server how size))) (content_in looked) (held_in looked)) s
+    behind_head size head told same stands first leads None is = absurd is
+    behind_head size head told same stands first leads (Some link) is =
         let one : head ≡ is.head = (let e : Some head ≡ Some is.head = sym stands ∙ is.stands in cc) in record {
           sent = is.sent;
           head = is.head;
           marks = [];
           is_content = no_content;
-          holds = subst (λ h. Holds told size h [] (held_in looked)) one (return_first looked here at told server size head leads first);
+          holds = subst (λ h. Holds told size h [] (held_in looked)) one (return_first looked here at told server how size head leads first);
           final = is.final;
           is_link = subst (λ (m : Request). IsLink m server seen is.sent (answers is.head ∷ []) link) (sym same) is.is_link;
         }
 
-    taken_answer_led : (size : Option ℕ) (head : ReadResponse) (taken : Taken Response) (used : Used) (closed : Bool) (here : At) → head_in (answers_in flow.request seen).final ≡ Some head →
-        HeldFirst (Some (response_of head)) looked → stage_of here looked ≡ sequence (turn_taken_answer at (with_answer flow (response_of head) seen.now) server size taken answer.moment used closed).stage →
-        IsOpen (ReadsFinal flow.request server seen) side → Led heads (turn_taken_answer at (with_answer flow (response_of head) seen.now) server size taken answer.moment used closed)
-    taken_answer_led size head (GoesOn message) used closed here stands first leads is_open =
-        (record { rest = keeps.rest; open_still = keeps.open_still }, behind_head size head (record (with_answer flow (response_of head) seen.now) { response = Some message }) here refl stands first leads side is_open)
-    taken_answer_led size head (Responds given) used closed here stands first leads is_open = (tt, tt)
-    taken_answer_led size head Kills used closed here stands first leads is_open = (tt, tt)
+    -- a request that goes up goes on
+    asked_up : (up : Sending) (told : Flow) (size : Option ℕ) → told.request ≡ flow.request → sent_of up ≡ how → AskedUp flow heads seen up requests →
+        GoesOnUp terms told (sight_behind terms.place heads seen answer.moment (busy at told (response_body server how size))) up [] requests
+    asked_up sending.All told size same is keeps = keeps
+    asked_up (sending.GoingUp goes) told size same is up =
+        let text : List ℕ = up_text terms.place (Some goes) up.marks in
+        let all : text ≡ going_text terms.place flow seen = all_text terms flow server seen goes up.marks requests up.going_on up.all_read (ap (gone_by (Some server)) up.not_whole) in
+        let told_is : told_up terms.place flow how seen ≡ length text = ap (λ s. told_up terms.place flow s seen) (sym is) ∙ ap length (sym all) in
+        record {
+          marks = up.marks;
+          going_on = record {
+            head = up.going_on.head;
+            sent_as = up.going_on.sent_as ∙ ap (λ (r : Request). Some (framed_up up.going_on.head r)) (sym same);
+            reads = up.going_on.reads;
+          };
+          within = none_more (told_up terms.place flow how seen) (length text) told_is;
+          is_text = sym (ap (λ n. drop n text) told_is ∙ drop_all text);
+        }
 
-    head_answered : (head : ReadResponse) (found : Asked) (here : At) → head_in (answers_in flow.request seen).final ≡ Some head → answer_asked flow server (Some head) seen.now ≡ Some found → FirstHeld found looked →
-        stage_of here looked ≡ sequence (turn_answer_head terms at flow server head seen answer).stage → IsOpen (ReadsFinal flow.request server seen) side → Led heads (turn_answer_head terms at flow server head seen answer)
-    head_answered head found here stands found_is first leads is_open =
-        let one : asked.ResponseHead (with_answer flow (response_of head) seen.now) server ≡ found =
-        (let e : Some (asked.ResponseHead (with_answer flow (response_of head) seen.now) server) ≡ Some found = found_is in cc) in
-        taken_answer_led (allowed_by terms.streams answer.value) head (taken_at_response_head (response_of head) answer.value) (server_in server seen) seen.closed here stands
-        (subst (λ f. FirstHeld f looked) (sym one) first) leads is_open
+    taken_answer_led : (size : Option ℕ) (head : ReadResponse) (taken : Taken Response) (used : Used) (closed : Bool) (up : Sending) → sent_of up ≡ how → AskedUp flow heads seen up requests → GoesUpFrom up looked →
+        head_in (answers_in flow.request seen).final ≡ Some head → HeldFirst (Some (response_of head)) looked →
+        IsOpen (ReadsFinal flow.request server seen) side → Led heads (turn_taken_answer at (with_answer flow (response_of head) seen.now) server how size taken answer.moment used closed)
+    taken_answer_led size head (GoesOn message) used closed up is ups goes stands first is_open leads =
+        let told : Flow = record (with_answer flow (response_of head) seen.now) { response = Some message } in
+        let sees : Sight = sight_behind terms.place heads seen answer.moment (busy at told (response_body server how size)) in (
+          subst (λ u. GoesOnUp terms told sees u [] requests) (sym (body_from looked here at told server how size up leads goes)) (asked_up up told size refl is ups),
+          behind_head size head told refl stands first leads side is_open,
+        )
+    taken_answer_led size head (Responds given) used closed up is ups goes stands first is_open leads = (tt, tt)
+    taken_answer_led size head Kills used closed up is ups goes stands first is_open leads = (tt, tt)
 
-    answer_led : (item : Item ReadResponse) (found : Asked) (here : At) → (answers_in flow.request seen).final ≡ item → answer_asked flow server (head_in item) seen.now ≡ Some found → FirstHeld found looked →
-        stage_of here looked ≡ sequence (turn_answer terms at flow server item seen answer).stage → IsOpen (ReadsFinal flow.request server seen) side → Led heads (turn_answer terms at flow server item seen answer)
-    answer_led missing found here same found_is first leads is_open = (tt, tt)
-    answer_led (part head body) found here same found_is first leads is_open = head_answered head found here (ap head_in same) found_is first leads is_open
-    answer_led (complete head body trailers size) found here same found_is first leads is_open = head_answered head found here (ap head_in same) found_is first leads is_open
-    answer_led (bad_head fault) found here same found_is first leads is_open = (tt, tt)
-    answer_led (bad_body fault head body) found here same found_is first leads is_open = head_answered head found here (ap head_in same) found_is first leads is_open
+    head_answered : (head : ReadResponse) (found : Asked) → sent_of (up_asked found) ≡ how → AskedUp flow heads seen (up_asked found) requests → head_in (answers_in flow.request seen).final ≡ Some head →
+        answer_asked flow server (Some head) seen.now ≡ Some (bare found) → FirstHeld found looked → KeepsUp found looked → IsOpen (ReadsFinal flow.request server seen) side → Led heads (turn_answer_head terms at flow server how head seen answer)
+    head_answered head found is ups stands found_is first keeps is_open leads =
+        let told : Flow = with_answer flow (response_of head) seen.now in
+        let one : asked.ResponseHead told server sending.All ≡ bare found = (let e : Some (asked.ResponseHead told server sending.All) ≡ Some (bare found) = found_is in cc) in
+        let (held, goes) = answer_same found told server looked one first keeps in
+        taken_answer_led (allowed_by terms.streams answer.value) head (taken_at_response_head (response_of head) answer.value) (server_in server seen) seen.closed (up_asked found) is ups goes stands held is_open leads
 
+    answer_led : (item : Item ReadResponse) (found : Asked) → sent_of (up_asked found) ≡ how → AskedUp flow heads seen (up_asked found) requests → (answers_in flow.request seen).final ≡ item →
+        answer_asked flow server (head_in item) seen.now ≡ Some (bare found) → FirstHeld found looked → KeepsUp found looked → IsOpen (ReadsFinal flow.request server seen) side → Led heads (turn_answer terms at flow server how item seen answer)
+    answer_led missing found is ups same found_is first keeps is_open leads = (tt, tt)
+    answer_led (part head body) found is ups same found_is first keeps is_open leads = head_answered head found is ups (ap head_in same) found_is first keeps is_open leads
+    answer_led (complete head body trailers size) found is ups same found_is first keeps is_open leads = head_answered head found is ups (ap head_in same) found_is first keeps is_open leads
+    answer_led (bad_head fault) found is ups same found_is first keeps is_open leads = (tt, tt)
+    answer_led (bad_body fault head body) found is ups same found_is first keeps is_open leads = head_answered head found is ups (ap head_in same) found_is first keeps is_open leads
+
+  -- ---- a whole response
+
+  module _ (at : At) (flow : Flow) (server : ℕ) (most : Option ℕ) (how : Sent) (keeps : how ≡ all_sent → Keeps seen.client requests) where
     abbrev returns : Stage
-    returns = busy at flow (response_body server all_sent most)
+    returns = busy at flow (response_body server how most)
 
     -- behind its own side a flow leaves none
-    finish_led : (stays : Bool) (owed : List Command) → Led returns (record { owed = owed; stage = behind_flow stays (unparked at) })
-    finish_led true owed = (again_reads seen.client requests keeps, refl)
-    finish_led false owed = (tt, tt)
+    finish_led : (stays : Bool) (owed : List Command) → (stays ≡ true → Keeps seen.client requests) → Led returns (record { owed = owed; stage = behind_flow stays (unparked at) })
+    finish_led true owed rests leads = (again_reads seen.client requests (rests refl), refl)
+    finish_led false owed rests leads = (tt, tt)
 
-    upgrade_led : (upgrades : Bool) (told : Flow) (message : Response) (used : Used) (closed : Bool) → IsOpen (LinkKeeps server (server_left returns seen) seen.shut) side →
-        Led returns (finish_by upgrades at told message server used closed)
-    upgrade_led true told message used closed is_open = (record { rest = keeps.rest; open_still = keeps.open_still }, is_open)
-    upgrade_led false told message used closed is_open =
-        finish_led (connection_goes_on at.flow told.request message) (finish_by false at told message server used closed).owed
+    rests_by : (sent : Sent) (goes : Bool) → how ≡ sent → (is_sent sent && goes) ≡ true → Keeps seen.client requests
+    rests_by all_sent goes is stays = keeps is
+    rests_by going_up goes is stays = absurd (let no : false ≡ true = stays in cc)
+
+    upgrade_led : (sent : Sent) (is_switch : Bool) (told : Flow) (message : Response) (used : Used) (closed : Bool) → how ≡ sent → IsOpen (LinkKeeps server (server_left returns seen) seen.shut) side →
+        Led returns (finish_by (is_sent sent && is_switch) at told sent message server used closed)
+    upgrade_led all_sent true told message used closed is is_open leads = (record { rest = (keeps is).rest; open_still = (keeps is).open_still; behind = (keeps is).behind }, is_open)
+    upgrade_led all_sent false told message used closed is is_open leads =
+        finish_led (is_sent all_sent && connection_goes_on at.flow told.request message) (finish_by false at told all_sent message server used closed).owed (λ stays. keeps is) leads
+    upgrade_led going_up is_switch told message used closed is is_open leads =
+        finish_led (is_sent going_up && connection_goes_on at.flow told.request message) (finish_by false at told going_up message server used closed).owed
+        (λ stays. absurd (let no : false ≡ true = stays in cc)) leads
 
     taken_whole_led : (told : Flow) (taken : Taken Response) (used : Used) (closed : Bool) → IsOpen (LinkKeeps server (server_left returns seen) seen.shut) side →
-        Led returns (turn_taken_whole at told server taken answer.moment used closed)
-    taken_whole_led told (GoesOn message) used closed is_open = upgrade_led (message.status == 101) told message used closed is_open
-    taken_whole_led told (Responds given) used closed is_open = (tt, tt)
-    taken_whole_led told Kills used closed is_open = (tt, tt)
+        Led returns (turn_taken_whole at told server how taken answer.moment used closed)
+    taken_whole_led told (GoesOn message) used closed is_open leads = upgrade_led how (message.status == 101) told message used closed refl is_open leads
+    taken_whole_led told (Responds given) used closed is_open leads = (tt, tt)
+    taken_whole_led told Kills used closed is_open leads = (tt, tt)
 
     whole_led : (o : Option Response) (told : Flow) (used : Used) (closed : Bool) → IsOpen (LinkKeeps server (server_left returns seen) seen.shut) side →
-        Led returns (turn_response o (λ message. taken_at_response_body message answer.value) (λ taken. turn_taken_whole at told server taken answer.moment used closed))
-    whole_led None told used closed is_open = (tt, tt)
-    whole_led (Some message) told used closed is_open = taken_whole_led told (taken_at_response_body message answer.value) used closed is_open
+        Led returns (turn_response o (λ message. taken_at_response_body message answer.value) (λ taken. turn_taken_whole at told server how taken answer.moment used closed))
+    whole_led None told used closed is_open leads = (tt, tt)
+    whole_led (Some message) told used closed is_open leads = taken_whole_led told (taken_at_response_body message answer.value) used closed is_open leads
 
-    returned_led : (item : Item ReadResponse) → IsOpen (LinkKeeps server (server_left returns seen) seen.shut) side → Led returns (turn_returned at flow server item seen answer)
-    returned_led missing is_open = (tt, tt)
-    returned_led (part head body) is_open = (tt, tt)
-    returned_led (complete head body trailers size) is_open =
-        let told : Flow = with_returned flow body.content trailers seen.now in whole_led told.response told (server_in server seen) seen.closed is_open
-    returned_led (bad_head fault) is_open = (tt, tt)
-    returned_led (bad_body fault head body) is_open = (tt, tt)
+    returned_led : (item : Item ReadResponse) → IsOpen (LinkKeeps server (server_left returns seen) seen.shut) side → Led returns (turn_returned at flow server how item seen answer)
+    returned_led missing is_open leads = (tt, tt)
+    returned_led (part head body) is_open leads = (tt, tt)
+    returned_led (complete head body trailers size) is_open leads =
+        let told : Flow = with_returned flow body.content trailers seen.now in whole_led told.response told (server_in server seen) seen.closed is_open leads
+    returned_led (bad_head fault) is_open leads = (tt, tt)
+    returned_led (bad_body fault head body) is_open leads = (tt, tt)
 
   module _ (at : At) (flow : Flow) (keeps : Keeps seen.client requests) (parked : side ≡ parked_link at.parked seen) where
     taken_given_led : (told : Flow) (taken : Taken Response) (used : Used) (closed : Bool) → Led (busy at flow given_head) (turn_taken_given at told taken answer.moment used closed)
-    taken_given_led told (GoesOn message) used closed =
-        (record { rest = keeps.rest; open_still = keeps.open_still }, kept_parked at.parked seen side seen.client seen.closed answer.moment parked)
-    taken_given_led told (Responds given) used closed = (tt, tt)
-    taken_given_led told Kills used closed = (tt, tt)
+    taken_given_led told (GoesOn message) used closed leads =
+        (record { rest = keeps.rest; open_still = keeps.open_still; behind = keeps.behind }, kept_parked at.parked seen side seen.client seen.closed 0 answer.moment parked)
+    taken_given_led told (Responds given) used closed leads = (tt, tt)
+    taken_given_led told Kills used closed leads = (tt, tt)
 
     given_led : (o : Option Response) (told : Flow) (used : Used) (closed : Bool) →
         Led (busy at flow given_head) (turn_response o (λ message. taken_at_response_head message answer.value) (λ taken. turn_taken_given at told taken answer.moment used closed))
-    given_led None told used closed = (tt, tt)
-    given_led (Some message) told used closed = taken_given_led told (taken_at_response_head message answer.value) used closed
+    given_led None told used closed leads = (tt, tt)
+    given_led (Some message) told used closed leads = taken_given_led told (taken_at_response_head message answer.value) used closed leads
 
     last_led : (stays : Bool) (owed : List Command) → Led (busy at flow given_body) (record { owed = owed; stage = behind_flow stays at })
-    last_led true owed = (again_reads seen.client requests keeps, kept_parked at.parked seen side seen.client seen.closed answer.moment parked)
-    last_led false owed = (tt, tt)
+    last_led true owed leads = (again_reads seen.client requests keeps, kept_parked at.parked seen side seen.client seen.closed 0 answer.moment parked)
+    last_led false owed leads = (tt, tt)
 
     taken_last_led : (told : Flow) (taken : Taken Response) (used : Used) (closed : Bool) → Led (busy at flow given_body) (turn_taken_returned at told taken answer.moment used closed)
-    taken_last_led told (GoesOn message) used closed = last_led (connection_goes_on at.flow told.request message) (turn_taken_returned at told (GoesOn message) answer.moment used closed).owed
-    taken_last_led told (Responds given) used closed = (tt, tt)
-    taken_last_led told Kills used closed = (tt, tt)
+    taken_last_led told (GoesOn message) used closed leads =
+        last_led (is_sent all_sent && connection_goes_on at.flow told.request message) (turn_taken_returned at told (GoesOn message) answer.moment used closed).owed leads
+    taken_last_led told (Responds given) used closed leads = (tt, tt)
+    taken_last_led told Kills used closed leads = (tt, tt)
 
     given_body_led : (o : Option Response) (told : Flow) (used : Used) (closed : Bool) →
         Led (busy at flow given_body) (turn_response o (λ message. taken_at_response_body message answer.value) (λ taken. turn_taken_returned at told taken answer.moment used closed))
-    given_body_led None told used closed = (tt, tt)
-    given_body_led (Some message) told used closed = taken_last_led told (taken_at_response_body message answer.value) used closed
+    given_body_led None told used closed leads = (tt, tt)
+    given_body_led (Some message) told used closed leads = taken_last_led told (taken_at_response_body message answer.value) used closed leads
 
-  all_is : (how : Sent) → how ≡ all_sent
-  all_is all_sent = refl
+  -- ---- whatever was asked: this was sent of where it leads
 
-  led_for : (at : At) (flow : Flow) (doing : Doing) (found : Asked) → asked_for at flow doing seen ≡ Some found → AskedRequest (busy at flow doing) seen requests → AskedSide (busy at flow doing) seen side → FirstHeld found looked → (here : At) →
-      stage_of here looked ≡ sequence (turns terms at flow doing seen answer).stage → Led (busy at flow doing) (turns terms at flow doing seen answer)
-  led_for at flow (request_body given) found is keeps parked first here leads = body_led at flow given keeps parked (request_in seen)
-  led_for at flow connection found is keeps parked first here leads = dial_led at flow answer.value keeps
-  led_for at flow (response_head server all_sent) found is keeps is_open first here leads = answer_led at flow server None keeps (answers_in flow.request seen).final found here refl is first leads is_open
-  led_for at flow (response_body server all_sent most) found is keeps is_open first here leads = returned_led at flow server most keeps (answers_in flow.request seen).final is_open
-  led_for at flow (coming_down server how) found is keeps is_open first here leads = absurd (let no : None ≡ Some found = is in cc)
-  led_for at flow (upgraded server) found is keeps is_open first here leads = absurd (let no : None ≡ Some found = is in cc)
-  led_for at flow given_head found is keeps parked first here leads = given_led at flow keeps parked (given_at flow seen.now).response (given_at flow seen.now) (server_parked at.parked seen) seen.closed
-  led_for at flow given_body found is keeps parked first here leads = given_body_led at flow keeps parked flow.response flow (server_parked at.parked seen) seen.closed
+  abbrev First : Stage → Asked → SentOn
+  First stage found = record none_sent { up = text_first (going_asked found) answer.value }
 
-  led : (stage : Stage) (found : Asked) (here : At) → IsAsked terms requests side found stage seen → FirstHeld found looked → stage_of here looked ≡ sequence (turn terms stage seen answer).stage →
-      Led stage (turn terms stage seen answer)
-  led (idle at) found here is first leads = head_led at (request_in seen) is.request is.has_side
-  led (busy at flow doing) found here is first leads = led_for at flow doing found is.asks is.request is.has_side first here leads
-  led (next at) found here is first leads = absurd (let no : None ≡ Some found = is.asks in cc)
-  led over found here is first leads = absurd (let no : None ≡ Some found = is.asks in cc)
+  keeps_where : (flow : Flow) (stage : Stage) (up : Sending) (how : Sent) → sent_of up ≡ how → AskedUp flow stage seen up requests → how ≡ all_sent → Keeps (client_left stage seen) requests
+  keeps_where flow stage sending.All how is keeps all = keeps
+  keeps_where flow stage (sending.GoingUp goes) how is up all = absurd (let no : going_up ≡ all_sent = is ∙ all in cc)
+
+  led_for : (at : At) (flow : Flow) (doing : Doing) (found : Asked) → is_dial found ≡ false → asked_for at flow doing seen ≡ Some (bare found) → sent_asked found ≡ sent_doing doing →
+      AskedRequestFor terms at flow doing seen found requests → AskedSide (busy at flow doing) seen side → FirstHeld found looked → KeepsUp found looked → Led (busy at flow doing) (turns terms at flow doing seen answer)
+  led_for at flow (request_body given most) found none is how keeps parked first goes leads = body_led at flow given most keeps parked (request_in seen) leads
+  led_for at flow (connection how) found none is shows waits parked first goes leads =
+      absurd (let no : true ≡ false = sym (bare_dial found (let e : Some (asked.Connection flow at.dials None) ≡ Some (bare found) = is in ap is_dial (sym (some_asked (asked.Connection flow at.dials None) (bare found) e)))) ∙ none in cc)
+  led_for at flow (response_head server how) found none is shows ups is_open first goes leads =
+      answer_led at flow server how (answers_in flow.request seen).final found (sym (sent_up found none) ∙ shows) ups refl is first goes is_open leads
+  led_for at flow (response_body server how most) found none is shows ups is_open first goes leads =
+      returned_led at flow server most how (keeps_where flow (busy at flow (response_body server how most)) (up_asked found) how (sym (sent_up found none) ∙ shows) ups) (answers_in flow.request seen).final is_open leads
+  led_for at flow (coming_down server how) found none is shows keeps is_open first goes leads = absurd (let no : None ≡ Some (bare found) = is in cc)
+  led_for at flow (upgraded server) found none is shows keeps is_open first goes leads = absurd (let no : None ≡ Some (bare found) = is in cc)
+  led_for at flow given_head found none is shows keeps parked first goes leads = given_led at flow keeps parked (given_at flow seen.now).response (given_at flow seen.now) (server_parked at.parked seen) seen.closed leads
+  led_for at flow given_body found none is shows keeps parked first goes leads = given_body_led at flow keeps parked flow.response flow (server_parked at.parked seen) seen.closed leads
+
+  pub led_plain : (stage : Stage) (found : Asked) → is_dial found ≡ false → IsAsked terms requests side found stage seen → FirstHeld found looked → KeepsUp found looked → Led stage (turn terms stage seen answer)
+  led_plain (idle at) found none is first goes leads = head_led at (request_in seen) found is.asks first is.request is.has_side leads
+  led_plain (busy at flow doing) found none is first goes leads = led_for at flow doing found none is.asks is.how is.request is.has_side first goes leads
+  led_plain (next at) found none is first goes leads = absurd (let no : None ≡ Some (bare found) = is.asks in cc)
+  led_plain over found none is first goes leads = absurd (let no : None ≡ Some (bare found) = is.asks in cc)
 
 -- what is looked for has its place
 placed_at : (at : At) (looked : Wanted) (sees : Sight) (closed : Bool) → closed ≡ sees.closed → HasPlace (stage_of at looked) sees at closed
 placed_at at ready.Idle sees closed is = record { is_here = refl; client = is }
-placed_at at (ready.RequestBody flow given body) sees closed is = record { is_here = refl; client = is }
-placed_at at (ready.Connection flow) sees closed is = record { is_here = refl; client = is }
-placed_at at (ready.ResponseHead flow server) sees closed is = record { is_here = refl; client = is }
-placed_at at (ready.ResponseBody flow server most body held) sees closed is = record { is_here = refl; client = is }
-placed_at at (ready.ComingDown flow server sent) sees closed is = record { is_here = refl; client = is }
+placed_at at (ready.RequestBody flow given most body held) sees closed is = record { is_here = refl; client = is }
+placed_at at (ready.Connection flow up) sees closed is = record { is_here = refl; client = is }
+placed_at at (ready.ResponseHead flow server up) sees closed is = record { is_here = refl; client = is }
+placed_at at (ready.ResponseBody flow server up most body held) sees closed is = record { is_here = refl; client = is }
+placed_at at (ready.ComingDown flow server up sent) sees closed is = record { is_here = refl; client = is }
 placed_at at (ready.Upgraded flow server) sees closed is = record { is_here = refl; client = is }
 placed_at at (ready.GivenHead flow) sees closed is = record { is_here = refl; client = is }
 placed_at at (ready.GivenBody flow) sees closed is = record { is_here = refl; client = is }
@@ -435,40 +497,70 @@ placed_at at (ready.Connects address) sees closed is = record { is_here = refl; 
 placed_at at ready.Over sees closed is = tt
 
 -- An answer leads where the chain leads, in the sight that the walk has behind it.
+module _ (terms : Terms) (seen : Sight) (answer : Timed Reply) (requests : State) (side : Option Link) (found : Asked) (at : At) (looked : Wanted) (closed : Bool) (content : content_in looked ≡ [])
+    (first : FirstHeld found looked) (goes : KeepsUp found looked) (shut : closed ≡ seen.closed) where
+  abbrev To : Stage → Bool → List Command → Type 0
+  To stage dials given =
+      let to : Stage = sequence (turn terms stage seen answer).stage in
+      Turned terms to (sight_behind terms.place stage seen answer.moment to) at (requests_behind (stage_of at looked) requests) (side_behind dials (stage_of at looked) side) looked closed given
+
+  from_led : (stage : Stage) (dials : Bool) (sent : SentOn) (given : List Command) → dials ≡ dials_at stage → (leads : stage_of at looked ≡ sequence (turn terms stage seen answer).stage) →
+      LedTo terms stage seen answer.moment requests side looked sent (sequence (turn terms stage seen answer).stage) → sent_on (sequence (turn terms stage seen answer).stage) sent ≡ given → To stage dials given
+  from_led stage dials sent given is leads (has_request, has_side) sent_is =
+      let to : Stage = sequence (turn terms stage seen answer).stage in
+      let sees : Sight = sight_behind terms.place stage seen answer.moment to in record {
+        sent = sent;
+        sent_is = sent_is;
+        is_ready = record {
+          is_stage = leads;
+          request = subst (λ s. HasRequest terms to sees sent.up looked (requests_behind s requests)) (sym leads) has_request;
+          has_side = subst (λ s. HasSide to sees sent looked (side_behind dials s side)) (sym leads) (subst (λ d. HasSide to sees sent looked (side_behind d to side)) (sym is) has_side);
+        };
+        place = subst (λ s. HasPlace s sees at closed) leads (placed_at at looked sees closed shut);
+      }
+
+  turned_plain : (stage : Stage) → is_dial found ≡ false → IsAsked terms requests side found stage seen → stage_of at looked ≡ sequence (turn terms stage seen answer).stage →
+      To stage (is_dial found) (first_sent (place_of stage) found answer.value)
+  turned_plain stage none is leads =
+      from_led stage (is_dial found) none_sent (first_sent (place_of stage) found answer.value) (dial_asked terms stage seen found is.asks) leads
+      (led_plain terms seen answer requests side looked content at stage found none is first goes leads)
+      (sent_none (sequence (turn terms stage seen answer).stage) ∙ sym (none_first (place_of stage) found answer.value none))
+
+  -- where a server is dialled
+  turned_dial : (stage : Stage) (own : Flow) (number : ℕ) (up : Option Going) → found ≡ asked.Connection own number up → IsAsked terms requests side found stage seen →
+      stage_of at looked ≡ sequence (turn terms stage seen answer).stage → To stage (is_dial found) (first_sent (place_of stage) found answer.value)
+  turned_dial (busy here flow (connection how)) own number up same is leads =
+      let shows : sent_by up ≡ how = ap sent_asked (sym same) ∙ is.how in
+      let goes_on : GoesUpFrom (connected_up up) looked = subst (λ f. KeepsUp f looked) same goes in
+      let waits : WaitsUp terms flow seen up requests = subst (λ f. AskedRequestFor terms here flow (connection how) seen f requests) same is.request in
+      let text : dialled_sends here.dials up answer.value ≡ first_sent here found answer.value = ap (λ f. first_sent here f answer.value) (sym same) in
+      from_led (busy here flow (connection how)) (is_dial found) (record none_sent { up = text_first up answer.value }) (first_sent here found answer.value) (dial_asked terms (busy here flow (connection how)) seen found is.asks) leads
+      (dial_led terms seen answer requests side looked content at here flow how up answer.value waits goes_on leads)
+      (ap (λ h. sent_on (sequence (dial_leads terms.place here flow h answer.value)) (record none_sent { up = text_first up answer.value })) (sym shows) ∙ (dial_sent terms.place here flow up answer.value ∙ text))
+  turned_dial (idle here) own number up same is leads = absurd (let no : true ≡ false = sym (ap is_dial same) ∙ dial_asked terms (idle here) seen found is.asks in cc)
+  turned_dial (busy here flow (request_body given most)) own number up same is leads = absurd (let no : true ≡ false = sym (ap is_dial same) ∙ dial_asked terms (busy here flow (request_body given most)) seen found is.asks in cc)
+  turned_dial (busy here flow (response_head server how)) own number up same is leads = absurd (let no : true ≡ false = sym (ap is_dial same) ∙ dial_asked terms (busy here flow (response_head server how)) seen found is.asks in cc)
+  turned_dial (busy here flow (response_body server how most)) own number up same is leads = absurd (let no : true ≡ false = sym (ap is_dial same) ∙ dial_asked terms (busy here flow (response_body server how most)) seen found is.asks in cc)
+  turned_dial (busy here flow (coming_down server how)) own number up same is leads = absurd (let no : true ≡ false = sym (ap is_dial same) ∙ dial_asked terms (busy here flow (coming_down server how)) seen found is.asks in cc)
+  turned_dial (busy here flow (upgraded server)) own number up same is leads = absurd (let no : true ≡ false = sym (ap is_dial same) ∙ dial_asked terms (busy here flow (upgraded server)) seen found is.asks in cc)
+  turned_dial (busy here flow given_head) own number up same is leads = absurd (let no : true ≡ false = sym (ap is_dial same) ∙ dial_asked terms (busy here flow given_head) seen found is.asks in cc)
+  turned_dial (busy here flow given_body) own number up same is leads = absurd (let no : true ≡ false = sym (ap is_dial same) ∙ dial_asked terms (busy here flow given_body) seen found is.asks in cc)
+  turned_dial (next here) own number up same is leads = absurd (let no : true ≡ false = sym (ap is_dial same) ∙ dial_asked terms (next here) seen found is.asks in cc)
+  turned_dial over own number up same is leads = absurd (let no : true ≡ false = sym (ap is_dial same) ∙ dial_asked terms over seen found is.asks in cc)
+
+  turned_by : (one : Asked) (stage : Stage) → found ≡ one → IsAsked terms requests side found stage seen → stage_of at looked ≡ sequence (turn terms stage seen answer).stage →
+      To stage (is_dial found) (first_sent (place_of stage) found answer.value)
+  turned_by (asked.Connection own number up) stage same is leads = turned_dial stage own number up same is leads
+  turned_by (asked.Idle own expects) stage same is leads = turned_plain stage (ap is_dial same) is leads
+  turned_by (asked.RequestBody own) stage same is leads = turned_plain stage (ap is_dial same) is leads
+  turned_by (asked.ResponseHead own number up) stage same is leads = turned_plain stage (ap is_dial same) is leads
+  turned_by (asked.ResponseBody own number up) stage same is leads = turned_plain stage (ap is_dial same) is leads
+  turned_by (asked.GivenHead own) stage same is leads = turned_plain stage (ap is_dial same) is leads
+  turned_by (asked.GivenBody own) stage same is leads = turned_plain stage (ap is_dial same) is leads
+
 pub turned : (terms : Terms) (stage : Stage) (seen : Sight) (answer : Timed Reply) (requests : State) (side : Option Link) (found : Asked) (at : At) (looked : Wanted) (closed : Bool) →
-    IsAsked terms requests side found stage seen → stage_of at looked ≡ sequence (turn terms stage seen answer).stage → content_in looked ≡ [] → FirstHeld found looked → closed ≡ seen.closed →
-    Turned (sequence (turn terms stage seen answer).stage) (sight_behind stage seen answer.moment (sequence (turn terms stage seen answer).stage)) at
-    (requests_behind (stage_of at looked) requests) (side_behind (is_dial found) (stage_of at looked) side) looked closed
-turned terms stage seen answer requests side found at looked closed is leads content first shut =
-    let to : Stage = sequence (turn terms stage seen answer).stage in
-    let sees : Sight = sight_behind stage seen answer.moment to in
-    let (has_request, has_side) = led terms seen answer requests side looked content stage found at is first leads in
-    record {
-      sent_none = sent_none to;
-      is_ready = record {
-        is_stage = leads;
-        request = subst (λ s. HasRequest to sees (content_in looked) (requests_behind s requests)) (sym leads) (subst (λ l. HasRequest to sees l (requests_behind to requests)) (sym content) has_request);
-        has_side = subst (λ s. HasSide to sees none_sent looked (side_behind (is_dial found) s side)) (sym leads)
-            (subst (λ d. HasSide to sees none_sent looked (side_behind d to side)) (sym (dial_asked terms stage seen found is.asks)) has_side);
-      };
-      place = subst (λ s. HasPlace s sees at closed) leads (placed_at at looked sees closed shut);
-    }
-
--- ---- an answer to a dial that is none
-
-pub owes_none : (to : Place) (flow : Flow) (server : ℕ) (answer : Reply) (moment : ℕ) (closed : Bool) → (answer ≡ reply.Dialled → ⊥) → ((fault : Fault) → answer ≡ reply.Refused fault → ⊥) →
-    dial_owes to flow server answer moment closed ≡ []
-owes_none to flow server reply.Dialled moment closed not_dialled not_refused = absurd (not_dialled refl)
-owes_none to flow server (reply.Refused fault) moment closed not_dialled not_refused = absurd (not_refused fault refl)
-owes_none to flow server (reply.Go other stream) moment closed not_dialled not_refused = refl
-owes_none to flow server (reply.Respond given) moment closed not_dialled not_refused = refl
-owes_none to flow server reply.Kill moment closed not_dialled not_refused = refl
-owes_none to flow server reply.Discard moment closed not_dialled not_refused = refl
-
-pub leads_none : (to : Place) (at : At) (flow : Flow) (answer : Reply) → (answer ≡ reply.Dialled → ⊥) → over ≡ sequence (dial_leads to at flow answer)
-leads_none to at flow reply.Dialled not_dialled = absurd (not_dialled refl)
-leads_none to at flow (reply.Refused fault) not_dialled = refl
-leads_none to at flow (reply.Go other stream) not_dialled = refl
-leads_none to at flow (reply.Respond given) not_dialled = refl
-leads_none to at flow reply.Kill not_dialled = refl
-leads_none to at flow reply.Discard not_dialled = refl
+    IsAsked terms requests side found stage seen → stage_of at looked ≡ sequence (turn terms stage seen answer).stage → content_in looked ≡ [] → FirstHeld found looked → KeepsUp found looked → closed ≡ seen.closed →
+    Turned terms (sequence (turn terms stage seen answer).stage) (sight_behind terms.place stage seen answer.moment (sequence (turn terms stage seen answer).stage)) at
+    (requests_behind (stage_of at looked) requests) (side_behind (is_dial found) (stage_of at looked) side) looked closed (first_sent (place_of stage) found answer.value)
+turned terms stage seen answer requests side found at looked closed is leads content first goes shut =
+    turned_by terms seen answer requests side found at looked closed content first goes shut found stage refl is leads

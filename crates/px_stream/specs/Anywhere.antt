@@ -10,12 +10,13 @@ use Rattle.px_event.specs.Chain.{Timed}
 use Rattle.px_event.specs.Laws.{owed_over}
 use Rattle.px_event.specs.View.{View, seen_of}
 use Rattle.px_event.proofs.Steps.{Takes, Resumes}
-use Rattle.px_read.specs.Reader.{before_all, request}
+use Rattle.px_read.specs.Reader.{State, before_all, behind_end, request}
 use Rattle.px_exchange.specs.Dials.{connected_owes}
+use Rattle.px_exchange.specs.declared.place.Place.{Place}
 use Rattle.px_exchange.specs.declared.terms.Terms.{Terms}
 use Rattle.px_chain.specs.Chain.{http_chain, parked_of, reached, sequence}
 use Rattle.px_chain.specs.Sights.{IsWithin, Sight, Standing, sight_over}
-use Rattle.px_chain.specs.Stages.{At, Doing, Parked, Stage, all_sent, busy, connection, given_head, idle, next, over, request_body, response_head}
+use Rattle.px_chain.specs.Stages.{At, Doing, Parked, Sent, Stage, all_sent, busy, connection, given_head, going_up, idle, next, over, request_body, response_head}
 use Rattle.px_chain.specs.Streams.{client_closed, now_over}
 use Rattle.px_stream.specs.declared.link.Link.{Link}
 use Rattle.px_stream.specs.declared.phase.Phase.TheVariants as phase
@@ -30,8 +31,8 @@ pub record IsCounted (ahead : ℕ) (at : At) : Type 0 where
 
 -- one more where the flow has dialled, or may have
 abbrev pub IsFewFor : ℕ → At → Doing → Type 0
-IsFewFor ahead at (request_body given) = IsCounted ahead at
-IsFewFor ahead at connection = IsCounted ahead at
+IsFewFor ahead at (request_body given most) = IsCounted ahead at
+IsFewFor ahead at (connection sent) = IsCounted ahead at
 IsFewFor ahead at doing = IsCounted (ahead + 1) at
 
 abbrev pub IsFew : ℕ → Stage → Type 0
@@ -111,7 +112,7 @@ pub record Begins (before after : Stream) (moment : ℕ) (closed : Bool) (rest w
 
 -- What follows a whole request that others have read and asked about, by the response that was given in place of the server's, if one was.
 abbrev pub doing_by : Option Response → Doing
-doing_by None = connection
+doing_by None = connection all_sent
 doing_by (Some response) = given_head
 
 -- A new stream may go on with this flow at this place and over this prefix: it was made for it, and the client has sent nothing that is not used, and has not closed.
@@ -125,6 +126,10 @@ pub record MayGoOn (made : Terms) (ahead : ℕ) (state : Stream) (moment : ℕ) 
   pub parked : state.side ≡ parked_link state.at.parked (sight_over place prefix)
   pub within : IsWithin place prefix
   pub now : moment ≡ now_over place.since prefix
+
+-- a reader that stands behind a request which others have read
+abbrev pub ended_reader : State
+ended_reader = record { place = behind_end []; rest = []; closed = false }
 
 pub record GoesOnWith (before after : Stream) (moment : ℕ) (flow : Flow) (out longer : List Command) : Type 0 where
   pub more : List Command
@@ -141,31 +146,38 @@ OpensInTime (Some parked) opened prefix = client_closed prefix ≡ true → clie
 
 -- It heard an event while the dial of its server is awaited: wherever it stood, it stands there one event on.
 pub record HearsWaiting (before after : Stream) (event : Event) : Type 0 where
-  pub hears : (made : Terms) (ahead : ℕ) (place : Standing) (prefix : List (Timed Event)) (moment : ℕ) (at : At) (flow : Flow) →
-      place.stage ≡ busy at flow connection → OpensInTime at.parked place.opened prefix → IsInSequence made ahead before place prefix →
+  pub hears : (made : Terms) (ahead : ℕ) (place : Standing) (prefix : List (Timed Event)) (moment : ℕ) (at : At) (flow : Flow) (sent : Sent) →
+      place.stage ≡ busy at flow (connection sent) → OpensInTime at.parked place.opened prefix → IsInSequence made ahead before place prefix →
       IsInSequence made ahead after place (prefix ++ (record { moment = moment; value = event }) ∷ [])
 
 -- The flow of a state that stands where its server is dialled may be connected at this place: its side is that of the dial, these are
--- the side's bytes that others have not used, and nothing has closed it.
+-- the side's bytes that others have not used, and nothing has closed it. Nothing was owed of its request before.
 pub record MayReach (made : Terms) (ahead : ℕ) (state : Stream) (moment : ℕ) (rest : List ℕ) (from to : Standing) (prefix : List (Timed Event)) : Type 0 where
   pub at : At
   pub flow : Flow
-  pub dialling : from.stage ≡ busy at flow connection
+  pub sent : Sent
+  pub dialling : from.stage ≡ busy at flow (connection sent)
   pub there : IsInSequence made ahead state from prefix
-  pub stage : to.stage ≡ busy (record at { dials = at.dials + 1; parked = None }) (reached made.place flow) (response_head at.dials all_sent)
+  pub stage : to.stage ≡ busy (record at { dials = at.dials + 1; parked = None }) (reached made.place flow) (response_head at.dials sent)
   pub client : to.used.client ≡ from.used.client
+  pub told : to.told ≡ 0
   pub come : (sight_over to prefix).server ≡ rest
   pub unshut : (sight_over to prefix).shut ≡ false
   pub within : IsWithin to prefix
   pub now : moment ≡ now_over to.since prefix
 
+-- a whole request goes to the server at once, and of one that goes up its stage owes what came
+abbrev pub reached_owes : Sent → Place → Flow → ℕ → List Command
+reached_owes all_sent place flow server = connected_owes place flow server
+reached_owes going_up place flow server = []
+
 -- Its request went to the server, and it looked once: it is where the chain is there, and gave what is owed there.
-pub record ReachesThere (made : Terms) (ahead : ℕ) (after : Stream) (more : List Command) (to : Standing) (prefix : List (Timed Event)) (at : At) (flow : Flow) : Type 0 where
+pub record ReachesThere (made : Terms) (ahead : ℕ) (after : Stream) (more : List Command) (to : Standing) (prefix : List (Timed Event)) (at : At) (flow : Flow) (sent : Sent) : Type 0 where
   pub is_there : IsInSequence made ahead after ((http_chain sequence made).pass to prefix).stage prefix
-  pub gives : (view : View) → seen_of view more ≡ seen_of view (connected_owes made.place flow at.dials ++ owed_over (http_chain sequence made) to prefix)
+  pub gives : (view : View) → seen_of view more ≡ seen_of view (reached_owes sent made.place flow at.dials ++ owed_over (http_chain sequence made) to prefix)
 
 pub record Reaches (before after : Stream) (moment : ℕ) (rest : List ℕ) (out longer : List Command) : Type 0 where
   pub more : List Command
   pub grown : longer ≡ out ++ more
   pub reaches : (made : Terms) (ahead : ℕ) (from to : Standing) (prefix : List (Timed Event)) → (may : MayReach made ahead before moment rest from to prefix) →
-      ReachesThere made ahead after more to prefix may.at may.flow
+      ReachesThere made ahead after more to prefix may.at may.flow may.sent

@@ -1,5 +1,7 @@
 pub mod Anywhere
 pub mod Comings
+pub mod GoingUp
+pub mod Goings
 pub mod Heard
 pub mod Looks
 pub mod Passes

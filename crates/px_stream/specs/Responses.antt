@@ -14,7 +14,7 @@ use Rattle.px_stream.specs.declared.reading.FinalHead.{FinalHead}
 use Rattle.px_stream.specs.declared.reading.FinalHead.TheVariants as answer
 use Rattle.px_stream.specs.declared.reading.Came.{Came}
 use Rattle.px_stream.specs.declared.reading.Came.TheVariants as came
-use Rattle.px_stream.specs.Stands.{ReadsLink}
+use Rattle.px_stream.specs.Stands.{IsQuiet, ReadsLink}
 use Rattle.px_exchange.specs.Texts.{sends_on}
 
 -- what a part of a response is here: the head of an interim one, or what there is of the final one
@@ -61,6 +61,7 @@ AnswerCome (answer.Head head) asked_head number bytes shut all new =
     × ((answer_list asked_head shut bytes).interim ≡ all)
 AnswerCome answer.Missing asked_head number bytes shut all new =
     ReadsLink asked_head number bytes shut all [] new × ((answer_list asked_head shut bytes).final ≡ missing) × ((answer_list asked_head shut bytes).interim ≡ all)
+    × IsQuiet new.responses
 AnswerCome (answer.Bad fault) asked_head number bytes shut all new =
     ReadsLink asked_head number bytes shut all [] new × ((answer_list asked_head shut bytes).final ≡ bad_head fault) × ((answer_list asked_head shut bytes).interim ≡ all)
 

@@ -10,8 +10,8 @@ use Rattle.px_exchange.specs.declared.place.Place.{Place}
 use Rattle.px_exchange.specs.Requests.{is_head}
 use Rattle.px_chain.specs.Chain.{Connect, connect_in}
 use Rattle.px_chain.specs.Sights.{Sight, client_left, request_in, server_left}
-use Rattle.px_chain.specs.Stages.{Stage, busy, coming_down, idle, request_body, response_body, response_head, upgraded}
-use Rattle.px_stream.specs.Stands.{Passes}
+use Rattle.px_chain.specs.Stages.{Sent, Stage, all_sent, busy, coming_down, going_up, idle, request_body, response_body, response_head, upgraded}
+use Rattle.px_stream.specs.Stands.{Passes, sent_doing}
 
 -- A reader that was fed these bytes of a message keeps that rest: what it gave, followed by what the rest tells from where it
 -- stands, is what all of them tell, whatever follows.
@@ -28,15 +28,23 @@ pub record IsUnreadAnswer (asked_head : Bool) (bytes : List ℕ) (shut : Bool) (
   pub passes : Passes asked_head bytes fed sent
   pub unread : IsUnread (response asked_head) fed shut rest
 
+-- those behind a whole request, or those of one that goes up
+abbrev pub BehindSent : Sent → Sight → List ℕ → Type 0
+BehindSent all_sent seen rest = rest ≡ seen.client
+BehindSent going_up seen rest = IsUnread request seen.client false rest
+
 -- the client's bytes, where something is looked for
 abbrev pub ClientWaiting : Stage → Sight → List ℕ → Type 0
 ClientWaiting (idle at) seen rest = IsUnread request seen.client false rest
-ClientWaiting (busy at flow (request_body given)) seen rest = IsUnread request seen.client false rest
+ClientWaiting (busy at flow (request_body given most)) seen rest = IsUnread request seen.client false rest
+ClientWaiting (busy at flow doing) seen rest = BehindSent (sent_doing doing) seen rest
 ClientWaiting stage seen rest = rest ≡ seen.client
 
 -- where a question is open
 abbrev pub ClientAsked : Stage → Sight → List ℕ → Type 0
 ClientAsked (idle at) seen rest = IsUnread request seen.client false rest
+ClientAsked (busy at flow (request_body given most)) seen rest = rest ≡ client_left (busy at flow (request_body given most)) seen
+ClientAsked (busy at flow doing) seen rest = BehindSent (sent_doing doing) seen rest
 ClientAsked stage seen rest = rest ≡ client_left stage seen
 
 -- and at the end: behind a CONNECT, and behind the request of a flow that another protocol follows

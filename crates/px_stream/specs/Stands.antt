@@ -3,7 +3,7 @@ use Rattle.std.specs.Prelude.{◌≡◌, ◌≤◌, ◌+◌, ◌++◌, ℕ, Bool
 use Rattle.px_message.specs.declared.flow.Flow.{Flow}
 use Rattle.px_message.specs.declared.request.Request.{Request}
 use Rattle.px_message.specs.declared.response.Response.{Response}
-use Rattle.px_message.specs.Length.{has_no_body}
+use Rattle.px_message.specs.Length.{has_no_body, request_length}
 use Rattle.px_event.specs.declared.ask.Ask.{Ask}
 use Rattle.px_event.specs.declared.ask.Ask.TheVariants as asking
 use Rattle.px_event.specs.declared.ask.Hook.TheVariants.{RequestHead, RequestBody, ResponseHead, ResponseBody}
@@ -14,24 +14,34 @@ use Rattle.px_read.specs.Heads.{is_interim}
 use Rattle.px_read.specs.Items.{Item, complete, answer_list}
 use Rattle.px_read.specs.Laws.{head_in}
 use Rattle.px_read.specs.Marks.{Mark, asks, answers}
-use Rattle.px_read.specs.Reader.{State, request, response, before_all, Reads}
+use Rattle.px_read.specs.Reader.{State, MessagePlace, behind_end, request, response, before_all, Reads, to_come}
+use Rattle.px_read.specs.Readings.{only}
+use Rattle.px_read.specs.Chunks.{goes_on}
+use Rattle.px_read.specs.Kept.{fields_keep}
 use Rattle.px_read.specs.declared.head.RequestHead.{RequestHead as ReadRequest}
 use Rattle.px_read.specs.declared.head.ResponseHead.{ResponseHead as ReadResponse}
+use Rattle.px_bounds.specs.Bounds.{most_trailers}
 use Rattle.px_exchange.specs.declared.asked.Judged.{Judged}
 use Rattle.px_exchange.specs.declared.asked.Judged.TheVariants.{Accepted}
 use Rattle.px_exchange.specs.declared.ending.Used.{Used}
 use Rattle.px_exchange.specs.declared.ending.Used.TheVariants.{NoServer, ByServer}
 use Rattle.px_exchange.specs.declared.terms.Terms.{Terms}
-use Rattle.px_parts.specs.Texts.{marks_text}
+use Rattle.px_parts.specs.Texts.{left_of, marks_text}
 use Rattle.px_write.specs.Text.{response_head_text}
 use Rattle.px_exchange.specs.Bodies.{content_of}
 use Rattle.px_exchange.specs.Flows.{hook_of, response_of, with_answer, with_body, with_returned}
-use Rattle.px_exchange.specs.Requests.{is_head, expects, flow_of, judged}
+use Rattle.px_exchange.specs.Requests.{is_head, expects, fields_asked, flow_of, judged}
 use Rattle.px_exchange.specs.Texts.{interim_commands}
+use Rattle.px_event.specs.View.{View, seen_of}
 use Rattle.px_chain.specs.Chain.{Connect, connect_in, given_at, look, so_far}
+use Rattle.px_chain.specs.Going.{framed_up, whole_in}
 use Rattle.px_chain.specs.Sights.{Sight, Standing, IsWithin, answers_in, client_left, request_in, server_left, sight_over}
-use Rattle.px_chain.specs.Stages.{At, Doing, Parked, Stage, all_sent, busy, coming_down, connection, given_body, given_head, idle, next, over, place_of, request_body, response_body, response_head, upgraded}
+use Rattle.px_chain.specs.Stages.{At, Doing, Parked, Sent, Stage, all_sent, busy, coming_down, connection, given_body, given_head, idle, next, over, place_of, request_body, response_body, response_head, upgraded}
 use Rattle.px_stream.specs.declared.coming.Held.{Held}
+use Rattle.px_stream.specs.declared.going.Going.{Going}
+use Rattle.px_stream.specs.declared.going.HeldRequest.{HeldRequest}
+use Rattle.px_stream.specs.declared.going.Sending.{Sending}
+use Rattle.px_stream.specs.declared.going.Sending.TheVariants as sending
 use Rattle.px_stream.specs.declared.link.Link.{Link}
 use Rattle.px_stream.specs.declared.phase.Asked.{Asked}
 use Rattle.px_stream.specs.declared.phase.Asked.TheVariants as asked
@@ -41,6 +51,7 @@ use Rattle.px_stream.specs.declared.phase.Wanted.{Wanted}
 use Rattle.px_stream.specs.declared.phase.Wanted.TheVariants as ready
 use Rattle.px_stream.specs.declared.stream.Stream.{Stream}
 use Rattle.px_stream.specs.Comings.{framed_by, may_stream, sends_text}
+use Rattle.px_stream.specs.Goings.{may_go_up_by, sends_while, sent_by, sent_of, up_text}
 
 -- something is there
 abbrev pub IsSome : {A : Type 0} → Option A → Type 0
@@ -52,11 +63,11 @@ IsSome None = ⊥
 -- Where something is looked for, that is a stage. Behind a CONNECT nothing is: flows in sequence are never at `next`.
 abbrev pub stage_of : At → Wanted → Stage
 stage_of at ready.Idle = idle at
-stage_of at (ready.RequestBody flow given body) = busy at flow (request_body given)
-stage_of at (ready.Connection flow) = busy at flow connection
-stage_of at (ready.ResponseHead flow server) = busy at flow (response_head server all_sent)
-stage_of at (ready.ResponseBody flow server most body held) = busy at flow (response_body server all_sent most)
-stage_of at (ready.ComingDown flow server sent) = busy at flow (coming_down server all_sent)
+stage_of at (ready.RequestBody flow given most body held) = busy at flow (request_body given most)
+stage_of at (ready.Connection flow up) = busy at flow (connection (sent_by up))
+stage_of at (ready.ResponseHead flow server up) = busy at flow (response_head server (sent_of up))
+stage_of at (ready.ResponseBody flow server up most body held) = busy at flow (response_body server (sent_of up) most)
+stage_of at (ready.ComingDown flow server up sent) = busy at flow (coming_down server (sent_of up))
 stage_of at (ready.Upgraded flow server) = busy at flow (upgraded server)
 stage_of at (ready.GivenHead flow) = busy at flow given_head
 stage_of at (ready.GivenBody flow) = busy at flow given_body
@@ -65,21 +76,37 @@ stage_of at ready.Over = over
 
 -- the content that was read of a body
 abbrev pub content_in : Wanted → List ℕ
-content_in (ready.RequestBody flow given body) = body
-content_in (ready.ResponseBody flow server most body held) = body
+content_in (ready.RequestBody flow given most body held) = body
+content_in (ready.ResponseBody flow server up most body held) = body
 content_in looked = []
 
--- and what is held beside it, of a response that may yet be streamed
+-- and what is held beside it: of a request that may yet be streamed, and of a response
+abbrev pub held_up_in : Wanted → Option HeldRequest
+held_up_in (ready.RequestBody flow given most body held) = held
+held_up_in looked = None
+
 abbrev pub held_in : Wanted → Option Held
-held_in (ready.ResponseBody flow server most body held) = held
+held_in (ready.ResponseBody flow server up most body held) = held
 held_in looked = None
+
+-- a request that is streamed, whose server is to be dialled
+abbrev pub going_in : Wanted → Option Going
+going_in (ready.Connection flow up) = up
+going_in looked = None
+
+-- how the request stands, behind that
+abbrev pub up_in : Wanted → Sending
+up_in (ready.ResponseHead flow server up) = up
+up_in (ready.ResponseBody flow server up most body held) = up
+up_in (ready.ComingDown flow server up sent) = up
+up_in looked = sending.All
 
 -- a response that is streamed, as it is sent
 abbrev pub sent_in : Wanted → Option Response
-sent_in (ready.ComingDown flow server sent) = Some sent
+sent_in (ready.ComingDown flow server up sent) = Some sent
 sent_in looked = None
 
--- ---- what is asked about: the flow with what was read for it
+-- ---- what is asked about: the flow with what was read for it. How the request stands meanwhile is told apart (`AskedRequest`).
 
 abbrev pub judged_asked : Terms → At → ReadRequest → Judged → ℕ → Option Asked
 judged_asked terms at head (Accepted message) now = Some (asked.Idle (flow_of terms at.flow message now) (expects head))
@@ -95,15 +122,15 @@ body_asked flow item now = None
 
 abbrev pub answer_asked : Flow → ℕ → Option ReadResponse → ℕ → Option Asked
 answer_asked flow server None now = None
-answer_asked flow server (Some head) now = Some (asked.ResponseHead (with_answer flow (response_of head) now) server)
+answer_asked flow server (Some head) now = Some (asked.ResponseHead (with_answer flow (response_of head) now) server sending.All)
 
 abbrev pub returned_asked : Flow → ℕ → Item ReadResponse → ℕ → Option Asked
-returned_asked flow server (complete head body trailers size) now = Some (asked.ResponseBody (with_returned flow body.content trailers now) server)
+returned_asked flow server (complete head body trailers size) now = Some (asked.ResponseBody (with_returned flow body.content trailers now) server sending.All)
 returned_asked flow server item now = None
 
 abbrev pub asked_for : At → Flow → Doing → Sight → Option Asked
-asked_for at flow (request_body given) seen = body_asked flow (request_in seen) seen.now
-asked_for at flow connection seen = Some (asked.Connection flow at.dials)
+asked_for at flow (request_body given most) seen = body_asked flow (request_in seen) seen.now
+asked_for at flow (connection sent) seen = Some (asked.Connection flow at.dials None)
 asked_for at flow (response_head server sent) seen = answer_asked flow server (head_in (answers_in flow.request seen).final) seen.now
 asked_for at flow (response_body server sent most) seen = returned_asked flow server (answers_in flow.request seen).final seen.now
 asked_for at flow (coming_down server sent) seen = None
@@ -116,6 +143,38 @@ asked_in terms (idle at) seen = head_asked terms at (head_in (request_in seen)) 
 asked_in terms (busy at flow doing) seen = asked_for at flow doing seen
 asked_in terms stage seen = None
 
+-- what was asked, but for how the request stands; and that
+abbrev pub bare : Asked → Asked
+bare (asked.Connection flow server up) = asked.Connection flow server None
+bare (asked.ResponseHead flow server up) = asked.ResponseHead flow server sending.All
+bare (asked.ResponseBody flow server up) = asked.ResponseBody flow server sending.All
+bare found = found
+
+abbrev pub going_asked : Asked → Option Going
+going_asked (asked.Connection flow server up) = up
+going_asked found = None
+
+abbrev pub up_asked : Asked → Sending
+up_asked (asked.ResponseHead flow server up) = up
+up_asked (asked.ResponseBody flow server up) = up
+up_asked found = sending.All
+
+abbrev pub sent_asked : Asked → Sent
+sent_asked (asked.Connection flow server up) = sent_by up
+sent_asked found = sent_of (up_asked found)
+
+-- how it stands at a stage
+abbrev pub sent_doing : Doing → Sent
+sent_doing (connection sent) = sent
+sent_doing (response_head server sent) = sent
+sent_doing (response_body server sent most) = sent
+sent_doing (coming_down server sent) = sent
+sent_doing doing = all_sent
+
+abbrev pub sent_at : Stage → Sent
+sent_at (busy at flow doing) = sent_doing doing
+sent_at stage = all_sent
+
 -- ---- the client's reader
 
 -- the mark of a head
@@ -123,33 +182,108 @@ abbrev pub marks_at : Option ReadRequest → List Mark
 marks_at None = []
 marks_at (Some head) = asks head ∷ []
 
--- behind the head it gave these marks, whose content is this
-pub record ReadsBody (seen : Sight) (content : List ℕ) (requests : State) : Type 0 where
+-- The request as its head was read, as far as framing needs it.
+pub record IsRead (head : ReadRequest) (read : Request) : Type 0 where
+  pub method : read.method ≡ head.method
+  pub fields : read.fields ≡ fields_asked head
+
+-- What is held says what was read; where nothing is, the request is never streamed, or its response is given.
+abbrev pub HoldsNone : Option Response → Option ℕ → ReadRequest → Type 0
+HoldsNone None most head = may_go_up_by (request_length (fields_asked head)) most ≡ false
+HoldsNone (Some given) most head = ⊤
+
+abbrev pub HoldsUp : Option Response → Option ℕ → ReadRequest → List Mark → Option HeldRequest → Type 0
+HoldsUp given most head marks None = HoldsNone given most head
+HoldsUp given most head marks (Some held) = (given ≡ None) × IsRead head held.read × (held.said.items ≡ marks_text marks)
+
+-- Behind the head it gave these marks, whose content is this, and what is held says them. Nothing was sent of the request.
+pub record ReadsBody (given : Option Response) (most : Option ℕ) (seen : Sight) (content : List ℕ) (held : Option HeldRequest) (requests : State) : Type 0 where
   pub head : ReadRequest
   pub marks : List Mark
   pub is_content : content ≡ content_of marks
+  pub holds : HoldsUp given most head marks held
+  pub untold : seen.told ≡ 0
   pub reads : Reads request (asks head ∷ marks) seen.client false requests
 
 -- these bytes wait in it
-pub record Keeps (bytes : List ℕ) (requests : State) : Type 0 where
+pub record Waiting (bytes : List ℕ) (requests : State) : Type 0 where
   pub rest : requests.rest ≡ bytes
   pub open_still : requests.closed ≡ false
 
--- where something is looked for
-abbrev pub HasRequestFor : Doing → Sight → List ℕ → State → Type 0
-HasRequestFor (request_body given) seen content requests = ReadsBody seen content requests
-HasRequestFor doing seen content requests = Keeps seen.client requests
+-- behind a whole message, which has no more trailers than it may
+abbrev pub IsBehind : MessagePlace → Type 0
+IsBehind (behind_end trailers) = fields_keep trailers ≤ most_trailers
+IsBehind place = ⊥
 
-abbrev pub HasRequest : Stage → Sight → List ℕ → State → Type 0
-HasRequest (idle at) seen content requests = Reads request [] seen.client false requests
-HasRequest (busy at flow doing) seen content requests = HasRequestFor doing seen content requests
-HasRequest (next at) seen content requests = ⊥
-HasRequest over seen content requests = ⊤
+-- and it stands behind a whole request
+pub record Keeps (bytes : List ℕ) (requests : State) : Type 0 where
+  pub rest : requests.rest ≡ bytes
+  pub open_still : requests.closed ≡ false
+  pub behind : IsBehind requests.place
 
--- and where an answer is awaited
-abbrev pub AskedRequest : Stage → Sight → State → Type 0
-AskedRequest (idle at) seen requests = Reads request (marks_at (head_in (request_in seen))) seen.client false requests
-AskedRequest stage seen requests = Keeps (client_left stage seen) requests
+-- The request is streamed, and sent as this one: behind its head the reader gave these marks.
+pub record ReadsGoing (flow : Flow) (seen : Sight) (is_sent : Option Request) (marks : List Mark) (requests : State) : Type 0 where
+  pub head : ReadRequest
+  pub sent_as : is_sent ≡ Some (framed_up head flow.request)
+  pub reads : Reads request (asks head ∷ marks) seen.client false requests
+
+-- its server is dialled, and this is the text of what came
+pub record ReadsWaiting (terms : Terms) (flow : Flow) (seen : Sight) (going : Going) (requests : State) : Type 0 where
+  pub marks : List Mark
+  pub going_on : ReadsGoing flow seen (Some going.sent) marks requests
+  pub is_text : going.text.items ≡ up_text terms.place (Some going.sent) marks
+
+abbrev pub WaitsUp : Terms → Flow → Sight → Option Going → State → Type 0
+WaitsUp terms flow seen None requests = Keeps seen.client requests
+WaitsUp terms flow seen (Some going) requests = ReadsWaiting terms flow seen going requests
+
+-- its server is connected, and this was sent of it behind what earlier asks owed
+pub record ReadsUp (terms : Terms) (flow : Flow) (seen : Sight) (sent : Request) (text : List ℕ) (requests : State) : Type 0 where
+  pub marks : List Mark
+  pub going_on : ReadsGoing flow seen (Some sent) marks requests
+  pub within : seen.told ≤ length (up_text terms.place (Some sent) marks)
+  pub is_text : text ≡ left_of seen.told (up_text terms.place (Some sent) marks)
+
+abbrev pub GoesOnUp : Terms → Flow → Sight → Sending → List ℕ → State → Type 0
+GoesOnUp terms flow seen sending.All text requests = Keeps seen.client requests
+GoesOnUp terms flow seen (sending.GoingUp sent) text requests = ReadsUp terms flow seen sent text requests
+
+-- where something is looked for, and this text was sent of a request that goes up
+abbrev pub HasRequestFor : Terms → Flow → Doing → Sight → List ℕ → Wanted → State → Type 0
+HasRequestFor terms flow (request_body given most) seen text looked requests = ReadsBody given most seen (content_in looked) (held_up_in looked) requests
+HasRequestFor terms flow (connection sent) seen text looked requests = WaitsUp terms flow seen (going_in looked) requests
+HasRequestFor terms flow (response_head server sent) seen text looked requests = GoesOnUp terms flow seen (up_in looked) text requests
+HasRequestFor terms flow (response_body server sent most) seen text looked requests = GoesOnUp terms flow seen (up_in looked) text requests
+HasRequestFor terms flow (coming_down server sent) seen text looked requests = GoesOnUp terms flow seen (up_in looked) text requests
+HasRequestFor terms flow doing seen text looked requests = Keeps seen.client requests
+
+abbrev pub HasRequest : Terms → Stage → Sight → List ℕ → Wanted → State → Type 0
+HasRequest terms (idle at) seen text looked requests = Reads request [] seen.client false requests
+HasRequest terms (busy at flow doing) seen text looked requests = HasRequestFor terms flow doing seen text looked requests
+HasRequest terms (next at) seen text looked requests = ⊥
+HasRequest terms over seen text looked requests = ⊤
+
+-- And where an answer is awaited. Of a request that goes up all was sent that came then, and it was not whole.
+pub record AskedUpAs (flow : Flow) (seen : Sight) (sent : Request) (requests : State) : Type 0 where
+  pub marks : List Mark
+  pub going_on : ReadsGoing flow seen (Some sent) marks requests
+  pub all_read : (to_come requests).marks ≡ []
+  pub not_whole : whole_in seen ≡ None
+
+abbrev pub AskedUp : Flow → Stage → Sight → Sending → State → Type 0
+AskedUp flow stage seen sending.All requests = Keeps (client_left stage seen) requests
+AskedUp flow stage seen (sending.GoingUp sent) requests = AskedUpAs flow seen sent requests
+
+abbrev pub AskedRequestFor : Terms → At → Flow → Doing → Sight → Asked → State → Type 0
+AskedRequestFor terms at flow (connection sent) seen found requests = WaitsUp terms flow seen (going_asked found) requests
+AskedRequestFor terms at flow (response_head server sent) seen found requests = AskedUp flow (busy at flow (response_head server sent)) seen (up_asked found) requests
+AskedRequestFor terms at flow (response_body server sent most) seen found requests = AskedUp flow (busy at flow (response_body server sent most)) seen (up_asked found) requests
+AskedRequestFor terms at flow doing seen found requests = Keeps (client_left (busy at flow doing) seen) requests
+
+abbrev pub AskedRequest : Terms → Stage → Sight → Asked → State → Type 0
+AskedRequest terms (idle at) seen found requests = Reads request (marks_at (head_in (request_in seen))) seen.client false requests
+AskedRequest terms (busy at flow doing) seen found requests = AskedRequestFor terms at flow doing seen found requests
+AskedRequest terms stage seen found requests = Keeps (client_left stage seen) requests
 
 -- ---- the server's side
 
@@ -250,13 +384,15 @@ abbrev pub parked_link : Option Parked → Sight → Option Link
 parked_link None seen = None
 parked_link (Some parked) seen = Some (unread_link parked.server false seen.server seen.shut)
 
--- What was sent on of what a stage looks for: interim responses, and what came of a response that is streamed.
+-- What was sent on of what a stage looks for: interim responses, what came of a response that is streamed, and what came of a request that
+-- goes up, behind what earlier asks owed of that.
 pub record SentOn : Type 0 where
   pub interim : List ReadResponse
   pub text : List ℕ
+  pub up : List ℕ
 
 abbrev pub none_sent : SentOn
-none_sent = record { interim = []; text = [] }
+none_sent = record { interim = []; text = []; up = [] }
 
 -- where something is looked for, and this was sent on
 abbrev pub HasSideFor : At → Flow → Doing → Sight → SentOn → Wanted → Option Link → Type 0
@@ -290,21 +426,23 @@ used_in (Some link) = ByServer link.server link.closed
 -- ---- all of a state
 
 -- it looks for what the stage awaits, where this was sent on
-pub record IsReady (at : At) (requests : State) (side : Option Link) (looked : Wanted) (stage : Stage) (seen : Sight) (sent : SentOn) : Type 0 where
+pub record IsReady (terms : Terms) (at : At) (requests : State) (side : Option Link) (looked : Wanted) (stage : Stage) (seen : Sight) (sent : SentOn) : Type 0 where
   pub is_stage : stage_of at looked ≡ stage
-  pub request : HasRequest stage seen (content_in looked) requests
+  pub request : HasRequest terms stage seen sent.up looked requests
   pub has_side : HasSide stage seen sent looked side
 
--- it awaits the answer to what the stage asks
+-- it awaits the answer to what the stage asks, where the request stands as it does there
 pub record IsAsked (terms : Terms) (requests : State) (side : Option Link) (found : Asked) (stage : Stage) (seen : Sight) : Type 0 where
-  pub asks : asked_in terms stage seen ≡ Some found
-  pub request : AskedRequest stage seen requests
+  pub asks : asked_in terms stage seen ≡ Some (bare found)
+  pub how : sent_asked found ≡ sent_at stage
+  pub request : AskedRequest terms stage seen found requests
   pub has_side : AskedSide stage seen side
 
 -- what a stage has sent on, where it has
 abbrev pub sent_for : Flow → Doing → SentOn → List Command
-sent_for flow (response_head server how) sent = interim_commands flow.request sent.interim
-sent_for flow (coming_down server how) sent = sends_text sent.text
+sent_for flow (response_head server how) sent = sends_while how server sent.up ++ interim_commands flow.request sent.interim
+sent_for flow (response_body server how most) sent = sends_while how server sent.up
+sent_for flow (coming_down server how) sent = sends_while how server sent.up ++ sends_text sent.text
 sent_for flow doing sent = []
 
 abbrev pub sent_on : Stage → SentOn → List Command
@@ -314,7 +452,7 @@ sent_on stage sent = []
 -- At an end a tunnel or another protocol follows, or the conversation has ended. What stands behind on both sides is kept.
 pub record IsConnecting (connects : Connect) (seen : Sight) (requests : State) (last : Wanted) : Type 0 where
   pub phase : last ≡ ready.Connects connects.address
-  pub keeps : Keeps (drop connects.used seen.client) requests
+  pub keeps : Waiting (drop connects.used seen.client) requests
 
 pub record IsUpgraded (flow : Flow) (server : ℕ) (seen : Sight) (requests : State) (side : Option Link) (last : Wanted) : Type 0 where
   pub phase : last ≡ ready.Upgraded flow server
@@ -334,10 +472,26 @@ IsLast terms (idle at) seen requests side last = IsLastAt (connect_in terms.plac
 IsLast terms (busy at flow doing) seen requests side last = IsLastFor flow doing seen requests side last
 IsLast terms stage seen requests side last = last ≡ ready.Over
 
+-- a reader gave all that had come of its message, which goes on
+abbrev pub IsQuiet : State → Type 0
+IsQuiet state = to_come state ≡ only goes_on
+
+abbrev pub UpQuiet : Sending → State → Type 0
+UpQuiet sending.All requests = ⊤
+UpQuiet (sending.GoingUp sent) requests = IsQuiet requests
+
+-- where nothing is awaited: what is read of a direction that keeps no body
+abbrev pub HasGiven : Wanted → State → Option Link → Type 0
+HasGiven ready.Idle requests side = IsQuiet requests
+HasGiven (ready.ResponseHead flow server up) requests side = UpQuiet up requests × IsOpen (λ link. IsQuiet link.responses) side
+HasGiven (ready.ResponseBody flow server up most body held) requests side = UpQuiet up requests
+HasGiven (ready.ComingDown flow server up sent) requests side = UpQuiet up requests × IsOpen (λ link. IsQuiet link.responses) side
+HasGiven looked requests side = ⊤
+
 abbrev pub PhaseAt : Look Command → Terms → At → State → Option Link → Phase → Stage → Sight → Type 0
 PhaseAt NotYet terms at requests side found stage seen =
-    (looked : Wanted) × (sent : SentOn) × (found ≡ phase.Ready looked) × IsReady at requests side looked stage seen sent
-    × (so_far stage seen ≡ sent_on stage sent)
+    (looked : Wanted) × (sent : SentOn) × (found ≡ phase.Ready looked) × IsReady terms at requests side looked stage seen sent
+    × ((view : View) → seen_of view (so_far terms stage seen) ≡ seen_of view (sent_on stage sent)) × HasGiven looked requests side
 PhaseAt (Asks ask) terms at requests side found stage seen = (awaits : Asked) × (found ≡ phase.Asked awaits) × IsAsked terms requests side awaits stage seen
 PhaseAt (Ends owed) terms at requests side found stage seen = (last : Wanted) × (found ≡ phase.Ready last) × IsLast terms stage seen requests side last
 
@@ -366,9 +520,9 @@ pub record IsAt (made : Terms) (state : Stream) (place : Standing) (prefix : Lis
 abbrev pub asked_of : Asked → Ask
 asked_of (asked.Idle flow expects) = hook_of flow RequestHead
 asked_of (asked.RequestBody flow) = hook_of flow RequestBody
-asked_of (asked.Connection flow server) = asking.Dial server
-asked_of (asked.ResponseHead flow server) = hook_of flow ResponseHead
-asked_of (asked.ResponseBody flow server) = hook_of flow ResponseBody
+asked_of (asked.Connection flow server up) = asking.Dial server
+asked_of (asked.ResponseHead flow server up) = hook_of flow ResponseHead
+asked_of (asked.ResponseBody flow server up) = hook_of flow ResponseBody
 asked_of (asked.GivenHead flow) = hook_of flow ResponseHead
 asked_of (asked.GivenBody flow) = hook_of flow ResponseBody
 

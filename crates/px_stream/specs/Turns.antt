@@ -3,19 +3,28 @@ use Rattle.std.specs.Prelude.{◌≡◌, ◌++◌, ℕ, Bool, true, false, List,
 use Rattle.px_event.specs.declared.command.Command.{Command}
 use Rattle.px_event.specs.declared.event.Event.{Event}
 use Rattle.px_event.specs.declared.reply.Reply.{Reply}
+use Rattle.px_event.specs.declared.reply.Reply.TheVariants as replies
 use Rattle.px_event.specs.Chain.{Timed, Turn}
 use Rattle.px_read.specs.Reader.{State, request, before_all}
 use Rattle.px_exchange.specs.declared.ending.Used.{Used}
+use Rattle.px_exchange.specs.declared.place.Place.{Place}
 use Rattle.px_exchange.specs.declared.terms.Terms.{Terms}
+use Rattle.px_exchange.specs.Dials.{connected_owes}
 use Rattle.px_exchange.specs.declared.taken.Taken.{Taken}
 use Rattle.px_exchange.specs.Replies.{taken_at_body_of, taken_at_head_of, taken_at_request_body, taken_at_request_head}
 use Rattle.px_exchange.specs.Requests.{is_head}
 use Rattle.px_message.specs.declared.flow.Flow.{Flow}
+use Rattle.px_message.specs.declared.request.Request.{Request}
 use Rattle.px_message.specs.declared.response.Response.{Response}
 use Rattle.px_chain.specs.Chain.{sequence, stops, turn_dial, turn_taken_answer, turn_taken_body, turn_taken_given, turn_taken_head, turn_taken_returned, turn_taken_whole}
 use Rattle.px_chain.specs.Coming.{allowed_by}
+use Rattle.px_chain.specs.Going.{allowed_up_by}
 use Rattle.px_chain.specs.Sights.{Sight, server_in, server_parked}
 use Rattle.px_chain.specs.Stages.{At, Doing, Parked, Stage, busy, coming_down, idle, response_body, response_head, upgraded}
+use Rattle.px_stream.specs.declared.going.Going.{Going}
+use Rattle.px_stream.specs.declared.going.HeldRequest.{HeldRequest}
+use Rattle.px_stream.specs.declared.going.Sending.{Sending}
+use Rattle.px_stream.specs.declared.going.Sending.TheVariants as sending
 use Rattle.px_stream.specs.declared.link.Link.{Link}
 use Rattle.px_stream.specs.declared.phase.Asked.{Asked}
 use Rattle.px_stream.specs.declared.phase.Asked.TheVariants as asked
@@ -26,7 +35,8 @@ use Rattle.px_stream.specs.declared.phase.Wanted.TheVariants as ready
 use Rattle.px_stream.specs.Comings.{IsHeldFor}
 use Rattle.px_stream.specs.Heard.{closes_client, requests_take, side_takes, side_with}
 use Rattle.px_stream.specs.Looks.{LookFound}
-use Rattle.px_stream.specs.Stands.{HasPlace, IsReady, content_in, none_sent, sent_on, stage_of, unread_link, used_in}
+use Rattle.px_stream.specs.Goings.{IsHeldUpFor, sends_to, sent_by, sent_of}
+use Rattle.px_stream.specs.Stands.{HasPlace, IsReady, SentOn, content_in, sent_on, stage_of, unread_link, used_in}
 
 -- ---- what an answer brings to what was asked
 
@@ -38,14 +48,14 @@ taken_turn (Some taken) goes = goes taken
 -- in this sight, beside this open side, and by whether the client has closed
 abbrev pub asked_turn : Terms → At → Asked → Sight → Used → Bool → Timed Reply → Turn Stage Command
 asked_turn terms at (asked.Idle flow expected) seen used closed answer =
-    turn_taken_head at flow expected (taken_at_request_head flow.request answer.value) answer.moment seen
+    turn_taken_head at flow expected (allowed_up_by terms.streams answer.value) (taken_at_request_head flow.request answer.value) answer.moment seen
 asked_turn terms at (asked.RequestBody flow) seen used closed answer =
     turn_taken_body terms.place at flow (taken_at_request_body flow.request answer.value) answer.moment seen
-asked_turn terms at (asked.Connection flow server) seen used closed answer = turn_dial terms.place at flow answer closed
-asked_turn terms at (asked.ResponseHead flow server) seen used closed answer =
-    taken_turn (taken_at_head_of flow.response answer.value) (λ taken. turn_taken_answer at flow server (allowed_by terms.streams answer.value) taken answer.moment used closed)
-asked_turn terms at (asked.ResponseBody flow server) seen used closed answer =
-    taken_turn (taken_at_body_of flow.response answer.value) (λ taken. turn_taken_whole at flow server taken answer.moment used closed)
+asked_turn terms at (asked.Connection flow server up) seen used closed answer = turn_dial terms.place at flow (sent_by up) answer closed
+asked_turn terms at (asked.ResponseHead flow server up) seen used closed answer =
+    taken_turn (taken_at_head_of flow.response answer.value) (λ taken. turn_taken_answer at flow server (sent_of up) (allowed_by terms.streams answer.value) taken answer.moment used closed)
+asked_turn terms at (asked.ResponseBody flow server up) seen used closed answer =
+    taken_turn (taken_at_body_of flow.response answer.value) (λ taken. turn_taken_whole at flow server (sent_of up) taken answer.moment used closed)
 asked_turn terms at (asked.GivenHead flow) seen used closed answer =
     taken_turn (taken_at_head_of flow.response answer.value) (λ taken. turn_taken_given at flow taken answer.moment used closed)
 asked_turn terms at (asked.GivenBody flow) seen used closed answer =
@@ -57,8 +67,8 @@ turned_by terms at (Some found) seen used closed answer = asked_turn terms at fo
 
 -- The sight shows the side that is used there, and whether the client has closed.
 abbrev pub used_at : At → Asked → Sight → Used
-used_at at (asked.ResponseHead flow server) seen = server_in server seen
-used_at at (asked.ResponseBody flow server) seen = server_in server seen
+used_at at (asked.ResponseHead flow server up) seen = server_in server seen
+used_at at (asked.ResponseBody flow server up) seen = server_in server seen
 used_at at found seen = server_parked at.parked seen
 
 pub record Shows (at : At) (found : Asked) (used : Used) (closed : Bool) (seen : Sight) : Type 0 where
@@ -73,7 +83,7 @@ requests_behind (idle at) requests = before_all request requests.rest false
 requests_behind stage requests = requests
 
 abbrev pub is_dial : Asked → Bool
-is_dial (asked.Connection flow server) = true
+is_dial (asked.Connection flow server up) = true
 is_dial found = false
 
 -- A server that was dialled has sent nothing yet; of one that was parked all that waits is to be read.
@@ -108,19 +118,71 @@ HeldBehind flow read None most held = ⊥
 HeldBehind flow read (Some response) most held = IsHeldBehind (is_head flow.request.method) read response most held
 
 abbrev pub HeldFirst : Option Response → Wanted → Type 0
-HeldFirst read (ready.ResponseBody flow server most body held) = HeldBehind flow read flow.response most held
+HeldFirst read (ready.ResponseBody flow server up most body held) = HeldBehind flow read flow.response most held
 HeldFirst read looked = ⊤
 
+-- and of a request's body, of the request that was asked about
+abbrev pub HeldUpBehind : Option Response → (read : Request) → Option ℕ → Option HeldRequest → Type 0
+HeldUpBehind None read most held = IsHeldUpFor read most held
+HeldUpBehind (Some given) read most held = held ≡ None
+
+abbrev pub HeldUpFirst : (read : Request) → Wanted → Type 0
+HeldUpFirst read (ready.RequestBody flow given most body held) = HeldUpBehind given read most held
+HeldUpFirst read looked = ⊤
+
 abbrev pub FirstHeld : Asked → Wanted → Type 0
-FirstHeld (asked.ResponseHead flow server) looked = HeldFirst flow.response looked
+FirstHeld (asked.Idle flow expects) looked = HeldUpFirst flow.request looked
+FirstHeld (asked.ResponseHead flow server up) looked = HeldFirst flow.response looked
 FirstHeld found looked = ⊤
+
+-- ---- a request that goes up
+
+-- behind the connection to its server
+abbrev pub connected_up : Option Going → Sending
+connected_up None = sending.All
+connected_up (Some going) = sending.GoingUp going.sent
+
+-- It goes on as it did.
+abbrev pub GoesUpFrom : Sending → Wanted → Type 0
+GoesUpFrom up (ready.ResponseHead flow server next) = next ≡ up
+GoesUpFrom up (ready.ResponseBody flow server next most body held) = next ≡ up
+GoesUpFrom up looked = ⊤
+
+abbrev pub KeepsUp : Asked → Wanted → Type 0
+KeepsUp (asked.Connection flow server up) looked = GoesUpFrom (connected_up up) looked
+KeepsUp (asked.ResponseHead flow server up) looked = GoesUpFrom up looked
+KeepsUp found looked = ⊤
+
+-- what a server is sent that is connected: the request, or what came of one that goes up
+abbrev pub connects : Place → Flow → ℕ → Option Going → List Command
+connects place flow server None = connected_owes place flow server
+connects place flow server (Some going) = sends_to server going.text.items
+
+-- where its server is connected, the text of what came is sent
+abbrev pub going_sent : ℕ → Option Going → List Command
+going_sent server None = []
+going_sent server (Some going) = sends_to server going.text.items
+
+abbrev pub dialled_sends : ℕ → Option Going → Reply → List Command
+dialled_sends server up replies.Dialled = going_sent server up
+dialled_sends server up answer = []
+
+abbrev pub first_sent : At → Asked → Reply → List Command
+first_sent at (asked.Connection flow server up) answer = dialled_sends at.dials up answer
+first_sent at found answer = []
+
+-- what is given in all, where this is owed
+abbrev pub turn_gives : At → Asked → Reply → List Command → List Command
+turn_gives at (asked.Connection flow server up) answer owed = owed ++ dialled_sends at.dials up answer
+turn_gives at found answer owed = owed
 
 -- ---- the calls
 
--- What a turn of the chain is for a machine that looks for that, in the sight behind it.
-pub record Turned (stage : Stage) (seen : Sight) (at : At) (requests : State) (side : Option Link) (looked : Wanted) (closed : Bool) : Type 0 where
-  pub sent_none : sent_on stage none_sent ≡ []
-  pub is_ready : IsReady at requests side looked stage seen none_sent
+-- What a turn of the chain is for a machine that looks for that, in the sight behind it, and that sent this of where it leads.
+pub record Turned (terms : Terms) (stage : Stage) (seen : Sight) (at : At) (requests : State) (side : Option Link) (looked : Wanted) (closed : Bool) (given : List Command) : Type 0 where
+  pub sent : SentOn
+  pub sent_is : sent_on stage sent ≡ given
+  pub is_ready : IsReady terms at requests side looked stage seen sent
   pub place : HasPlace stage seen at closed
 
 -- It took this answer to what it asked, and is to look for that.
@@ -128,11 +190,12 @@ pub record TurnsTo (before after : Stream) (moment : ℕ) (reply : Reply) (found
   pub terms : after.terms ≡ before.terms
   pub client : after.client_closed ≡ before.client_closed
   pub gives : (seen : Sight) → Shows before.at found (used_in before.side) before.client_closed seen →
-      longer ≡ out ++ (asked_turn before.terms before.at found seen (used_in before.side) before.client_closed (record { moment = moment; value = reply })).owed
+      longer ≡ out ++ turn_gives before.at found reply (asked_turn before.terms before.at found seen (used_in before.side) before.client_closed (record { moment = moment; value = reply })).owed
   pub leads : (seen : Sight) → Shows before.at found (used_in before.side) before.client_closed seen →
       stage_of after.at looked ≡ sequence (asked_turn before.terms before.at found seen (used_in before.side) before.client_closed (record { moment = moment; value = reply })).stage
   pub content : content_in looked ≡ []
   pub held : FirstHeld found looked
+  pub up : KeepsUp found looked
   pub requests : after.requests ≡ requests_behind (stage_of after.at looked) before.requests
   pub side : after.side ≡ side_behind (is_dial found) (stage_of after.at looked) before.side
 

@@ -69,7 +69,7 @@ fn may_stream(asked_head: bool, read: &Response, response: &Response, most: Opti
 }
 
 // Whether a body of that length may come to more than is kept.
-fn may_exceed(length: Length, most: u64) -> bool
+pub(crate) fn may_exceed(length: Length, most: u64) -> bool
     ensures { result ≡ may_exceed length most }
 {
     match length {

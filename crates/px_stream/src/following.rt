@@ -72,18 +72,39 @@ pub(crate) fn follow_side(
             keep_parked(&at.parked, side);
             Ok(Wanted::Idle)
         }
-        Wanted::RequestBody { flow, given, body } => {
+        Wanted::RequestBody {
+            flow,
+            given,
+            most,
+            body,
+            held,
+        } => {
             keep_parked(&at.parked, side);
-            Ok(Wanted::RequestBody { flow, given, body })
+            Ok(Wanted::RequestBody {
+                flow,
+                given,
+                most,
+                body,
+                held,
+            })
         }
-        Wanted::Connection { flow } => {
+        Wanted::Connection { flow, up } => {
             keep_parked(&at.parked, side);
-            Ok(Wanted::Connection { flow })
+            Ok(Wanted::Connection { flow, up })
         }
-        Wanted::ResponseHead { flow, server } => {
+        Wanted::ResponseHead { flow, server, up } => {
             let asked_head = is_head(flow.request.get().method.bytes());
-            *side = link::open(alloc, dialled, server, asked_head, side.take())?;
-            Ok(Wanted::ResponseHead { flow, server })
+            match link::open(alloc, dialled, server, asked_head, side.take()) {
+                Ok(opened) => {
+                    *side = opened;
+                    Ok(Wanted::ResponseHead { flow, server, up })
+                }
+                Err(NoMemory) => {
+                    drop(flow);
+                    drop(up);
+                    Err(NoMemory)
+                }
+            }
         }
         Wanted::GivenHead { flow } => {
             keep_parked(&at.parked, side);

@@ -40,12 +40,27 @@
 //! and with `2` CRLF `de` CRLF behind it the head and both chunks are sent in one text; then `0` CRLF CRLF is the last of it, and the flow is done. What is due is
 //! one text, of which each call sends a piece: so what is given and what is owed are equal in each view (`specs/Passes.antt`).
 //!
+//! A request may be streamed as well: sent as it comes, framed as it was read, with no question about it behind its head's. While it may yet be, what its parts say
+//! is held beside its content, and so is the request as its head was read (`Wanted::RequestBody`, `going`). Where it is, it goes to the side that is parked, unless
+//! something was heard of that (then it is kept until it is whole), or its server is dialled at once, and the text of what came waits for that (`Asked::Connection`). From there on it goes up (`Sending::GoingUp`): its head was sent with
+//! what was held, and later calls send what each brought, while its response is looked for, asked about, or comes down; of what was sent nothing is kept. So each call first sends
+//! on what came of a request (`passing::request`), then passes what came of a response, and then looks. Say that a hook allows 4 bytes of a request in chunks: `3` CRLF `abc`
+//! CRLF is held, and with `2` CRLF `de` CRLF behind it the server is dialled; the reply has the head and both chunks sent in one text, and `0` CRLF CRLF is the last
+//! of it: then all of it was sent (`Sending::All`). A bad body of a request that goes up is found before anything of its response (`looking`), and where the response is whole
+//! before its request is, the conversation ends behind it (`ending`). What earlier asks owed of its text is no more owed, so what was sent is compared from there on
+//! (`specs/GoingUp.antt`).
+//!
+//! How much it keeps is told where nothing is awaited and neither direction keeps a body (`Stream::kept`, `specs/Tells.antt`): its readers gave all that had come, so each keeps what tells nothing yet, an unfinished
+//! head, chunk line or trailers; or it stands behind a whole message, and keeps its trailers. Either way these are fewer than 65,536 + 1,024 bytes in each direction (`px_bounds`), also of a response of 10 GB whose client reads slowly.
+//!
 //! `laws` says that the machine follows the chain, step by step.
 #![tactic(auto)]
 
 mod at;
 mod coming;
+mod ending;
 mod following;
+mod going;
 mod hearing;
 pub mod laws;
 mod leaving;

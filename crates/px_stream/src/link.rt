@@ -1,6 +1,8 @@
 //! The server's side that is open: the one that a flow uses, with the responses that come on it, or the one that is parked.
-ghost use Rattle.std.specs.Prelude.{◌≡◌, [], false, OnOk, IfOk};
+ghost use Rattle.std.specs.Prelude.{◌≡◌, ◌==◌, [], false, OnOk, IfOk};
+ghost use Rattle.px_read.specs.Reader.{keeps};
 ghost use Rattle.px_stream.specs.Anywhere.{unheard};
+ghost use Rattle.px_stream.specs.GoingUp.{silent_link, silent_side};
 ghost use Rattle.px_stream.specs.Heard.{IsUnshut, SideAgrees, feeds, link_closes, link_hears, side_with};
 ghost use Rattle.px_stream.specs.Stands.{unread_link, used_in};
 ghost use Rattle.px_stream.specs.Tells.{closed_in, side_rest};
@@ -64,6 +66,20 @@ impl Link {
             return Ok(());
         }
         self.responses.feed(bytes)
+    }
+
+    // Whether nothing waits of it, and its server has not closed.
+    fn is_silent(&self) -> bool
+        ensures { result ≡ silent_link self.now }
+    {
+        self.is_empty() && !self.closed
+    }
+
+    // Whether nothing waits of it.
+    fn is_empty(&self) -> bool
+        ensures { result ≡ (keeps self.now.responses == 0) }
+    {
+        self.responses.kept() == 0
     }
 
     // The close of the server of that number.
@@ -159,6 +175,16 @@ pub fn is_closed(side: &Option<Link>) -> bool
     match side {
         Some(link) => link.closed,
         None => false,
+    }
+}
+
+/// Whether nothing waits of the open side, and its server has not closed.
+pub fn is_silent(side: &Option<Link>) -> bool
+    ensures { result ≡ silent_side side.now }
+{
+    match side {
+        Some(link) => link.is_silent(),
+        None => true,
     }
 }
 

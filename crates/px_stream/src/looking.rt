@@ -6,9 +6,10 @@ ghost use Rattle.px_exchange.specs.Flows.{ask_of};
 ghost use Rattle.px_exchange.specs.Endings.{closed_message, ends_by_fault, ends_early, shut_server};
 ghost use Rattle.px_exchange.specs.Places.{dialled_for};
 ghost use Rattle.px_chain.specs.Chain.{given_at};
-ghost use Rattle.px_stream.specs.Looks.{LookFound, MayLook, is_over};
+ghost use Rattle.px_stream.specs.Looks.{LookFound, MayLook, UpRead, fault_of, is_over};
 
 use crate::at::At;
+use crate::going::{Going, Sending};
 use crate::link::Link;
 use crate::looking::answer::{look_for_answer, look_for_returned};
 use crate::looking::coming::look_for_end;
@@ -21,7 +22,7 @@ use px_exchange::said::ask;
 use px_exchange::terms::{Now, Terms};
 use px_exchange::{Boxed, Place};
 use px_message::{Fault, Flow};
-use px_read::MessageReader;
+use px_read::{MessageReader, Part};
 use px_text::NoMemory;
 
 mod answer;
@@ -43,21 +44,31 @@ pub fn look(
 {
     match ready {
         Wanted::Idle => look_for_head(terms, now, at.flow, requests, out),
-        Wanted::RequestBody { flow, given, body } => {
-            look_for_body(now, requests, flow, given, body, out)
-        }
-        Wanted::Connection { flow } => dial(&terms.place, now, at.dials, flow, out),
-        Wanted::ResponseHead { flow, server } => look_for_answer(now, side, flow, server, out),
-        Wanted::ResponseBody {
+        Wanted::RequestBody {
             flow,
-            server,
+            given,
             most,
             body,
             held,
-        } => look_for_returned(now, side, flow, server, most, body, held, out),
-        Wanted::ComingDown { flow, server, sent } => {
-            look_for_end(now, side, flow, server, sent, out)
+        } => look_for_body(now, requests, flow, given, most, body, held, out),
+        Wanted::Connection { flow, up } => dial(&terms.place, now, at.dials, flow, up, out),
+        Wanted::ResponseHead { flow, server, up } => {
+            look_for_answer(now, requests, side, flow, server, up, out)
         }
+        Wanted::ResponseBody {
+            flow,
+            server,
+            up,
+            most,
+            body,
+            held,
+        } => look_for_returned(now, requests, side, flow, server, up, most, body, held, out),
+        Wanted::ComingDown {
+            flow,
+            server,
+            up,
+            sent,
+        } => look_for_end(now, requests, side, flow, server, up, sent, out),
         Wanted::GivenHead { flow } => ask_given_head(now, flow, out),
         Wanted::GivenBody { flow } => ask_given_body(now, flow, out),
         Wanted::Upgraded { flow, server } => Ok(Phase::Ready(Wanted::Upgraded { flow, server })),
@@ -72,18 +83,37 @@ fn dial(
     now: Now,
     server: u32,
     flow: Boxed<Flow>,
+    up: Option<Going>,
     out: &mut Vec<Command>,
 ) -> Result<Phase, NoMemory>
     ensures gives { OnOk result (out.new.items ≡ out.old.items ++ commands.Dial server (dialled_for place.now flow.request) None ∷ shut_server now.parked) }
-    ensures phase { IfOk result (λ next. next ≡ Phase.Asked (Asked.Connection flow server)) }
+    ensures phase { IfOk result (λ next. next ≡ Phase.Asked (Asked.Connection flow server up)) }
+{
+    match say_dial(place, now, server, &flow, out) {
+        Ok(()) => Ok(Phase::Asked(Asked::Connection { flow, server, up })),
+        Err(NoMemory) => {
+            drop(flow);
+            drop(up);
+            Err(NoMemory)
+        }
+    }
+}
+
+fn say_dial(
+    place: &Place,
+    now: Now,
+    server: u32,
+    flow: &Flow,
+    out: &mut Vec<Command>,
+) -> Result<(), NoMemory>
+    ensures { OnOk result (out.new.items ≡ out.old.items ++ commands.Dial server (dialled_for place.now flow.now.request) None ∷ shut_server now.parked) }
 {
     out.push(Command::Dial {
         server,
-        address: dialled_for(place, &flow)?,
+        address: dialled_for(place, flow)?,
         inside: None,
     })?;
-    part(now.parked, out)?;
-    Ok(Phase::Asked(Asked::Connection { flow, server }))
+    part(now.parked, out)
 }
 
 // Asks the hook of the head of a response that was given in place of the server's.
@@ -127,4 +157,32 @@ fn leave(now: Now, flow: Boxed<Flow>, used: Used, out: &mut Vec<Command>) -> Res
 {
     end_early(now, flow, b"client closed", used, out)?;
     Ok(Phase::Ready(Wanted::Over))
+}
+
+// The fault of a request that goes up, if its reader has one to give; of any other request nothing is read.
+fn read_up(requests: &mut MessageReader, up: &Sending) -> Result<Option<Fault>, NoMemory>
+    ensures { IfOk result (λ bad. UpRead up.now bad requests.old requests.new) }
+{
+    match up {
+        Sending::All => Ok(None),
+        Sending::GoingUp(_) => {
+            let part = requests.next()?;
+            Ok(fault_of(part))
+        }
+    }
+}
+
+fn fault_of(part: Part) -> Option<Fault>
+    ensures { result ≡ fault_of part }
+{
+    match part {
+        Part::Bad(fault) => Some(fault),
+        Part::More
+        | Part::End(_)
+        | Part::Piece(_)
+        | Part::ChunkStart(_)
+        | Part::ChunkEnd
+        | Part::Request(_)
+        | Part::Response(_) => None,
+    }
 }

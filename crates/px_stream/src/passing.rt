@@ -1,5 +1,5 @@
 //! Where a flow goes on without an answer: a response's body is read as far as it has come; where it is streamed, what came is sent, and
-//! where that is all of it, the flow is finished.
+//! where that is all of it, the flow is finished. Before that, what came of a request that is streamed is sent on (`request`).
 ghost use Rattle.std.specs.Prelude.{◌≡◌, ◌<◌, ◌++◌, length, IfOk, OnOk};
 ghost use Rattle.px_exchange.specs.Bodies.{IsReading};
 ghost use Rattle.px_stream.specs.Comings.{sends_text};
@@ -8,6 +8,8 @@ ghost use Rattle.px_stream.specs.Stands.{IsOpen, IsSome, StaysOpen, stage_of};
 
 use crate::at::At;
 use crate::coming::{Held, as_streamed, framed, read_held, read_on, streams};
+use crate::ending::end_sent;
+use crate::going::Sending;
 use crate::link::{self, Link};
 use crate::phase::Wanted;
 use crate::turning::count_flow;
@@ -25,6 +27,10 @@ use px_text::{Bytes, NoMemory};
 use px_write::write_response_head;
 use std::alloc::Global;
 
+mod request;
+
+pub use request::pass_request;
+
 /// Goes on without an answer, once. Where a flow is finished, what is looked for next is the head of a request, of which nothing was read yet.
 pub fn pass(
     now: Now,
@@ -40,6 +46,7 @@ pub fn pass(
         Wanted::ResponseBody {
             flow,
             server,
+            up,
             most,
             body,
             held,
@@ -48,6 +55,7 @@ pub fn pass(
                 let coming = Undecided {
                     flow,
                     server,
+                    up,
                     most,
                     body,
                     held,
@@ -57,14 +65,18 @@ pub fn pass(
             None => Ok(Wanted::ResponseBody {
                 flow,
                 server,
+                up,
                 most,
                 body,
                 held: None,
             }),
         },
-        Wanted::ComingDown { flow, server, sent } => {
-            pass_coming(now, at, side, flow, server, sent, out)
-        }
+        Wanted::ComingDown {
+            flow,
+            server,
+            up,
+            sent,
+        } => pass_coming(now, at, side, flow, server, up, sent, out),
         other => Ok(other),
     }
 }
@@ -74,6 +86,7 @@ pub fn pass(
 struct Undecided {
     flow: Boxed<Flow>,
     server: u32,
+    up: Sending,
     most: Option<u64>,
     body: Content,
     held: Held,
@@ -90,7 +103,7 @@ fn pass_held(
     requires few { at.old.flow < 1000000 }
     requires given { IsSome coming.flow.response }
     requires reads { IsOpen (λ link. IsReading link.responses) side.old }
-    ensures { IfOk result (λ next. HeldPassed at.old at.new now.moment now.parked now.client_closed coming.flow coming.server coming.most coming.body coming.held next side.old side.new out.old.items out.new.items) }
+    ensures { IfOk result (λ next. HeldPassed at.old at.new now.moment now.parked now.client_closed coming.flow coming.server coming.up coming.most coming.body coming.held next side.old side.new out.old.items out.new.items) }
 {
     let mut coming = coming;
     let progress = read_more(side, &mut coming)?;
@@ -98,16 +111,18 @@ fn pass_held(
         let Undecided {
             flow,
             server,
+            up,
             body,
             held,
             ..
         } = coming;
         drop(body);
-        return start_down(now, at, flow, server, held, progress, out);
+        return start_down(now, at, flow, server, up, held, progress, out);
     }
     let Undecided {
         flow,
         server,
+        up,
         most,
         body,
         held,
@@ -115,6 +130,7 @@ fn pass_held(
     Ok(Wanted::ResponseBody {
         flow,
         server,
+        up,
         most,
         body,
         held: Some(held),
@@ -155,13 +171,14 @@ fn start_down(
     at: &mut At,
     flow: Boxed<Flow>,
     server: u32,
+    up: Sending,
     held: Held,
     progress: Progress,
     out: &mut Vec<Command>,
 ) -> Result<Wanted, NoMemory>
     requires few { at.old.flow < 1000000 }
     requires given { IsSome flow.response }
-    ensures { IfOk result (λ next. StartedDown at.old at.new now.moment now.parked now.client_closed flow server held.read progress held.said.items next out.old.items out.new.items) }
+    ensures { IfOk result (λ next. StartedDown at.old at.new now.moment now.parked now.client_closed flow server up held.read progress held.said.items next out.old.items out.new.items) }
 {
     let flow = as_streamed(now.alloc, flow)?;
     let Held { read, said } = held;
@@ -173,7 +190,7 @@ fn start_down(
     write_response_head(&sent, &mut text)?;
     text.extend_from_slice(said.as_slice())?;
     let sent = Shared::new(now.alloc, sent)?;
-    go_down(now, at, flow, server, sent, progress, text, out)
+    go_down(now, at, flow, server, up, sent, progress, text, out)
 }
 
 // Reads on a body that is streamed, and sends what came.
@@ -183,17 +200,18 @@ fn pass_coming(
     side: &mut Option<Link>,
     flow: Boxed<Flow>,
     server: u32,
+    up: Sending,
     sent: Shared<Response>,
     out: &mut Vec<Command>,
 ) -> Result<Wanted, NoMemory>
     requires few { at.old.flow < 1000000 }
     requires given { IsSome flow.response }
     requires reads { IsOpen (λ link. IsReading link.responses) side.old }
-    ensures { IfOk result (λ next. DownPassed at.old at.new now.moment now.parked now.client_closed flow server sent next side.old side.new out.old.items out.new.items) }
+    ensures { IfOk result (λ next. DownPassed at.old at.new now.moment now.parked now.client_closed flow server up sent next side.old side.new out.old.items out.new.items) }
 {
     let mut text = Vec::new(now.alloc);
     let progress = read_side(side, &mut text)?;
-    go_down(now, at, flow, server, sent, progress, text, out)
+    go_down(now, at, flow, server, up, sent, progress, text, out)
 }
 
 // Reads the open side, and adds what its parts say.
@@ -213,6 +231,7 @@ fn go_down(
     at: &mut At,
     flow: Boxed<Flow>,
     server: u32,
+    up: Sending,
     sent: Shared<Response>,
     progress: Progress,
     text: Vec<u8>,
@@ -220,18 +239,23 @@ fn go_down(
 ) -> Result<Wanted, NoMemory>
     requires few { at.old.flow < 1000000 }
     requires given { IsSome flow.response }
-    ensures { IfOk result (λ next. WentDown at.old at.new now.moment now.parked now.client_closed flow server sent progress text.items next out.old.items out.new.items) }
+    ensures { IfOk result (λ next. WentDown at.old at.new now.moment now.parked now.client_closed flow server up sent progress text.items next out.old.items out.new.items) }
 {
     match progress {
         Progress::Whole(trailers) => {
             let mut text = text;
             write_end(&sent.get().fields, &trailers, &mut text)?;
             send_text(text, out)?;
-            end_down(now, at, flow, sent, out)
+            end_down(now, at, flow, up, sent, out)
         }
         _ => {
             send_text(text, out)?;
-            Ok(Wanted::ComingDown { flow, server, sent })
+            Ok(Wanted::ComingDown {
+                flow,
+                server,
+                up,
+                sent,
+            })
         }
     }
 }
@@ -247,8 +271,34 @@ fn send_text(text: Vec<u8>, out: &mut Vec<Command>) -> Result<(), NoMemory>
     send(Side::Client, Bytes::new(text)?, out)
 }
 
-// Finishes the flow of a streamed response, all of which was sent.
+// Finishes the flow of a streamed response, all of which was sent. Its conversation ends where its request is not whole.
 fn end_down(
+    now: Now,
+    at: &mut At,
+    flow: Boxed<Flow>,
+    up: Sending,
+    sent: Shared<Response>,
+    out: &mut Vec<Command>,
+) -> Result<Wanted, NoMemory>
+    requires few { at.old.flow < 1000000 }
+    requires given { IsSome flow.response }
+    ensures gives { OnOk result (out.new.items ≡ out.old.items ++ ended_gives at.old.flow flow up flow.response sent now.moment now.parked now.client_closed) }
+    ensures leads { IfOk result (λ next. stage_of at.new next ≡ ended_leads at.old flow up flow.response sent) }
+{
+    match up {
+        Sending::All => end_whole(now, at, flow, sent, out),
+        Sending::GoingUp(request) => {
+            drop(request);
+            drop(sent);
+            end_sent(now, flow, out)?;
+            at.parked = None;
+            Ok(Wanted::Over)
+        }
+    }
+}
+
+// So of a flow whose request was sent.
+fn end_whole(
     now: Now,
     at: &mut At,
     flow: Boxed<Flow>,
@@ -257,8 +307,8 @@ fn end_down(
 ) -> Result<Wanted, NoMemory>
     requires few { at.old.flow < 1000000 }
     requires given { IsSome flow.response }
-    ensures gives { OnOk result (out.new.items ≡ out.old.items ++ ended_gives at.old.flow flow flow.response sent now.moment now.parked now.client_closed) }
-    ensures leads { IfOk result (λ next. stage_of at.new next ≡ ended_leads at.old flow flow.response sent) }
+    ensures gives { OnOk result (out.new.items ≡ out.old.items ++ ended_gives at.old.flow flow Sending.All flow.response sent now.moment now.parked now.client_closed) }
+    ensures leads { IfOk result (λ next. stage_of at.new next ≡ ended_leads at.old flow Sending.All flow.response sent) }
 {
     let Some(response) = &flow.response else {
         unreachable!()

@@ -3,6 +3,7 @@ ghost use Rattle.std.specs.Prelude.{◌≡◌};
 ghost use Rattle.px_stream.specs.Stands.{asked_of, awaited_in};
 
 use crate::coming::Held;
+use crate::going::{Going, HeldRequest, Sending};
 use px_event::{Ask, Hook};
 use px_exchange::Boxed;
 use px_exchange::content::Content;
@@ -14,26 +15,32 @@ use px_message::{Address, Flow, Response, Shared};
 pub enum Wanted {
     /// The head of a request.
     Idle,
-    /// The request's body; a response may be given already.
+    /// The request's body; a response may be given already. No more of it is kept than the answer to the hook of its head allowed, if it
+    /// told a size; and what is held of it where it may yet be streamed.
     RequestBody {
         flow: Boxed<Flow>,
         given: Option<Shared<Response>>,
+        most: Option<u64>,
         body: Content,
+        held: Option<HeldRequest>,
     },
-    /// The connection to its server, which is to be dialled: the request is whole.
+    /// The connection to its server, which is to be dialled: the request is whole, or it is streamed and what came of it waits.
     Connection {
         flow: Boxed<Flow>,
+        up: Option<Going>,
     },
     /// The head of the final response, of this server.
     ResponseHead {
         flow: Boxed<Flow>,
         server: u32,
+        up: Sending,
     },
     /// The response's body, of which no more is kept than the answer to the hook of its head allowed, if it told a size; and what is held
     /// of it where it may yet be streamed.
     ResponseBody {
         flow: Boxed<Flow>,
         server: u32,
+        up: Sending,
         most: Option<u64>,
         body: Content,
         held: Option<Held>,
@@ -42,6 +49,7 @@ pub enum Wanted {
     ComingDown {
         flow: Boxed<Flow>,
         server: u32,
+        up: Sending,
         sent: Shared<Response>,
     },
     /// Nothing: a response of code 101 was sent, and what follows on both sides is of another protocol.
@@ -69,19 +77,40 @@ pub enum Wanted {
 #[derive(Drop)]
 pub enum Asked {
     /// The hook of the request's head; whether the client waits to send the body.
-    Idle { flow: Boxed<Flow>, expects: bool },
+    Idle {
+        flow: Boxed<Flow>,
+        expects: bool,
+    },
     /// The hook of the whole request.
-    RequestBody { flow: Boxed<Flow> },
-    /// The dial of this server.
-    Connection { flow: Boxed<Flow>, server: u32 },
+    RequestBody {
+        flow: Boxed<Flow>,
+    },
+    /// The dial of this server; of a request that is streamed what came waits.
+    Connection {
+        flow: Boxed<Flow>,
+        server: u32,
+        up: Option<Going>,
+    },
     /// The hook of the response's head.
-    ResponseHead { flow: Boxed<Flow>, server: u32 },
+    ResponseHead {
+        flow: Boxed<Flow>,
+        server: u32,
+        up: Sending,
+    },
     /// The hook of the whole response.
-    ResponseBody { flow: Boxed<Flow>, server: u32 },
+    ResponseBody {
+        flow: Boxed<Flow>,
+        server: u32,
+        up: Sending,
+    },
     /// The hook of the head of a response that was given in place of the server's.
-    GivenHead { flow: Boxed<Flow> },
+    GivenHead {
+        flow: Boxed<Flow>,
+    },
     /// And that of the whole of it.
-    GivenBody { flow: Boxed<Flow> },
+    GivenBody {
+        flow: Boxed<Flow>,
+    },
 }
 
 /// Where the present flow stands.

@@ -1,7 +1,9 @@
 //! How much the parts of a stream keep, and what waits in them.
 ghost use Rattle.std.specs.Prelude.{◌≡◌, ◌-◌, ◌^◌, length, min};
-ghost use Rattle.px_stream.specs.Tells.{content_at, held_at, side_keeps, uses_side};
+ghost use Rattle.px_stream.specs.Tells.{SideHasRoom, content_at, going_text, held_at, held_text, held_up_text, side_keeps, uses_side};
 
+use crate::coming::Held;
+use crate::going::{Going, HeldRequest};
 use crate::link::Link;
 use crate::phase::{Asked, Phase, Wanted};
 
@@ -33,25 +35,51 @@ pub(crate) fn content_len(phase: &Phase) -> usize
     }
 }
 
-/// How long what is held of a body is, beside its content.
+/// How long what is held of a body is, beside its content, or what waits of a request whose server is dialled.
 pub(crate) fn held_len(phase: &Phase) -> usize
     ensures { result ≡ length (held_at phase.now) }
 {
     match phase {
-        Phase::Ready(
-            Wanted::ResponseBody {
-                held: Some(held),
-                ..
-            },
-        ) => held.said.len(),
+        Phase::Ready(Wanted::RequestBody { held, .. }) => request_len(held),
+        Phase::Ready(Wanted::Connection { up, .. }) => going_len(up),
+        Phase::Ready(Wanted::ResponseBody { held, .. }) => response_len(held),
         Phase::Ready(_) => 0,
+        Phase::Asked(Asked::Connection { up, .. }) => going_len(up),
         Phase::Asked(_) => 0,
+    }
+}
+
+fn request_len(held: &Option<HeldRequest>) -> usize
+    ensures { result ≡ length (held_up_text held.now) }
+{
+    match held {
+        Some(held) => held.said.len(),
+        None => 0,
+    }
+}
+
+fn going_len(up: &Option<Going>) -> usize
+    ensures { result ≡ length (going_text up.now) }
+{
+    match up {
+        Some(going) => going.text.len(),
+        None => 0,
+    }
+}
+
+fn response_len(held: &Option<Held>) -> usize
+    ensures { result ≡ length (held_text held.now) }
+{
+    match held {
+        Some(held) => held.said.len(),
+        None => 0,
     }
 }
 
 /// How much the reader of the open side keeps, where it counts.
 pub(crate) fn side_size(counts: bool, side: &Option<Link>) -> usize
-    ensures { result ≡ min (side_keeps counts side.now) (2 ^ 64 - 1) }
+    ensures kept { result ≡ min (side_keeps counts side.now) (2 ^ 64 - 1) }
+    ensures room { SideHasRoom counts side.now }
 {
     if !counts {
         return 0;

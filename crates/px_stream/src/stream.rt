@@ -5,11 +5,12 @@
 //!
 //! One server's side is open at most: the flow's own, or one that is parked, which is heard and not read, until a request goes there, or
 //! another server is dialled.
-ghost use Rattle.std.specs.Prelude.{◌≡◌, ◌≤◌, ◌<◌, ◌+◌, ◌-◌, ◌^◌, ℕ, List, [], ⊤, false, None, IfOk, OnOk, min, option_map};
+ghost use Rattle.std.specs.Prelude.{◌≡◌, ◌≤◌, ◌<◌, ◌+◌, ◌-◌, ◌^◌, ℕ, List, [], ⊤, true, false, None, IfOk, OnOk, min, option_map};
 ghost use Rattle.px_event.specs.Chain.{Timed};
 ghost use Rattle.px_event.specs.Layer.{AsksOnly, MayAnswer};
 ghost use Rattle.px_event.specs.declared.event.Event.{Event as Heard};
-ghost use Rattle.px_read.specs.Reader.{before_all, request};
+ghost use Rattle.px_bounds.specs.Bounds.{kept_below};
+ghost use Rattle.px_read.specs.Reader.{before_all, keeps, request};
 ghost use Rattle.px_exchange.specs.Places.{terms_of};
 ghost use Rattle.px_exchange.specs.declared.terms.Terms.{Terms as Made};
 ghost use Rattle.px_chain.specs.Chain.{begin as first, look as look_at, parked_of};
@@ -18,8 +19,9 @@ ghost use Rattle.px_chain.specs.Stages.{At as Stood, busy, idle};
 ghost use Rattle.px_stream.specs.Heard.{SideAgrees};
 ghost use Rattle.px_stream.specs.Anywhere.{Begins, GoesOnWith, HearsWaiting, IsInSequence, IsNew, Reaches, ResumesAnywhere, Somewhere, TakesAnywhere, doing_by};
 ghost use Rattle.px_stream.specs.Rests.{LeavesRests};
-ghost use Rattle.px_stream.specs.Stands.{IsSome, awaited_in, awaits, is_last, stage_of, used_in};
-ghost use Rattle.px_stream.specs.Tells.{IsDialling, IsSideBelow, asked_tunnel, dialled_flow, is_end, is_idle, led_by, led_to, open_parked, outcome_at, outcome_in, phase_flow, sequence_left, server_dialled, side_rest, stream_keeps, upgraded_side, uses_side};
+ghost use Rattle.px_stream.specs.Stands.{IsAt, IsSome, awaited_in, awaits, is_last, stage_of, used_in};
+ghost use Rattle.px_stream.specs.Tells.{KeepsLittle, keeps_no_body, keeps_no_request, keeps_no_response, side_keeps, IsDialling, IsSideBelow, asked_tunnel, dialled_flow, is_end, is_idle, led_by, led_to, open_parked, outcome_at, outcome_in, phase_flow, sequence_left, server_dialled, side_rest, stream_keeps, upgraded_side, uses_side};
+ghost use Rattle.px_stream.specs.GoingUp.{GoesUpOnce, MayGoUp, MayTakeSide};
 ghost use Rattle.px_stream.specs.Passes.{Advances, MayPass, PassesOnce, is_passing};
 ghost use Rattle.px_stream.specs.Turns.{Hears, LooksOnce, TurnsTo, is_dial, requests_behind, side_behind};
 ghost use Rattle.px_stream.specs.Looks.{MayLook};
@@ -30,7 +32,7 @@ use crate::hearing::hear;
 use crate::leaving::{enter, take_asked, take_looked};
 use crate::link::{self, Link};
 use crate::looking::look;
-use crate::passing::{is_passing, pass};
+use crate::passing::{is_passing, pass, pass_request};
 use crate::phase::{Asked, Phase, Wanted};
 use crate::sizes::{content_len, held_len, side_size, uses_side};
 use crate::turning::turn;
@@ -201,9 +203,18 @@ impl Stream {
     }
 
     /// How many bytes it keeps, or 2^64 - 1 where that is more: what its readers keep, the content that has come of the body that it
-    /// reads, and what is held beside that of a response that may yet be streamed. The flow does not count, nor do bytes that wait behind a message, or of a side that is parked.
+    /// reads, what is held beside that of a message that may yet be streamed, and the text of a request that waits for its server. The flow does not count, nor do bytes that wait behind
+    /// a message, or of a side that is parked.
+    ///
+    /// Where nothing is awaited, a direction that keeps no body keeps fewer than 65,536 + 1,024 bytes, whatever was heard and however long the messages are; so where neither keeps one, all are at most
+    /// twice as many.
     pub fn kept(&self) -> usize
-        ensures { result ≡ min (stream_keeps self.now) (2 ^ 64 - 1) }
+        ensures kept { result ≡ min (stream_keeps self.now) (2 ^ 64 - 1) }
+        ensures client { (made : Made) (place : Standing) (prefix : List (Timed Heard)) → IsAt made self.now place prefix → keeps_no_request self.now.phase ≡ true → keeps self.now.requests < kept_below }
+        ensures server { (made : Made) (place : Standing) (prefix : List (Timed Heard)) → IsAt made self.now place prefix → keeps_no_response self.now.phase ≡ true →
+            side_keeps (uses_side self.now.phase) self.now.side < kept_below }
+        ensures bound { (made : Made) (place : Standing) (prefix : List (Timed Heard)) → IsAt made self.now place prefix → keeps_no_body self.now.phase ≡ true →
+            KeepsLittle self.now }
     {
         let side = side_size(uses_side(&self.phase), &self.side);
         let body = content_len(&self.phase).saturating_add(held_len(&self.phase));
@@ -251,6 +262,7 @@ impl Stream {
         ensures asks { OnOk result (AsksOnly (awaits self.new) out.old.items out.new.items) }
         ensures left { OnOk result (sequence_left self.new ≤ sequence_left self.old) }
     {
+        self.requests = MessageReader::behind(self.alloc);
         self.advance(moment, wanted_for(flow), out)
     }
 
@@ -302,12 +314,37 @@ impl Stream {
         ready: Wanted,
         out: &mut Vec<Command>,
     ) -> Result<(), NoMemory>
+        requires goes_up { MayGoUp ready self.old.requests }
+        requires takes { MayTakeSide self.old.at ready self.old.side }
         requires passes { MayPass self.old.at ready self.old.side }
         requires looks { is_passing ready ≡ false → MayLook ready self.old.requests self.old.side }
         ensures { OnOk result (Advances self.old self.new moment ready out.old.items out.new.items) }
     {
+        let ready = self.go_up(moment, ready, out)?;
         let ready = self.pass(moment, ready, out)?;
         self.look(moment, ready, out)
+    }
+
+    // Sends on what came of a request that is streamed.
+    fn go_up(
+        &mut self,
+        moment: u64,
+        ready: Wanted,
+        out: &mut Vec<Command>,
+    ) -> Result<Wanted, NoMemory>
+        requires { MayGoUp ready self.old.requests }
+        ensures { IfOk result (λ next. GoesUpOnce self.old self.new moment ready next out.old.items out.new.items) }
+    {
+        let now = self.now(moment);
+        pass_request(
+            &self.terms.place,
+            now,
+            &mut self.at,
+            &mut self.requests,
+            &mut self.side,
+            ready,
+            out,
+        )
     }
 
     // Goes on without an answer: its readers are then where what follows is looked for.
@@ -536,7 +573,7 @@ fn wanted_for(flow: Boxed<Flow>) -> Wanted
     if flow.response.is_some() {
         Wanted::GivenHead { flow }
     } else {
-        Wanted::Connection { flow }
+        Wanted::Connection { flow, up: None }
     }
 }
 

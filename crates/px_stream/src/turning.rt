@@ -1,17 +1,21 @@
 //! What the answer to an ask leads to.
-ghost use Rattle.std.specs.Prelude.{◌≡◌, ◌<◌, ◌+◌, ◌++◌, ◌==◌, [], None, Some, IfOk, OnOk};
-ghost use Rattle.px_exchange.specs.Dials.{connected_owes, dial_owes};
+ghost use Rattle.std.specs.Prelude.{◌≡◌, ◌<◌, ◌+◌, ◌++◌, ◌==◌, ◌&&◌, [], None, Some, IfOk, OnOk};
+ghost use Rattle.px_exchange.specs.Dials.{connected_owes};
 ghost use Rattle.px_exchange.specs.Replies.{taken_at_body_of, taken_at_head_of, taken_at_request_body, taken_at_request_head};
-ghost use Rattle.px_chain.specs.Chain.{behind_flow, dial_leads, finish as finishes, finish_by, goes_on_by, killed, parked_for, reached, sequence, turn_taken_answer, turn_taken_body, turn_taken_given, turn_taken_head, turn_taken_returned, turn_taken_whole, upgrade as upgrades};
+ghost use Rattle.px_chain.specs.Chain.{behind_flow, dial_leads, dial_owes_by, finish as finishes, finish_by, goes_on_by, killed, parked_for, reached, sequence, turn_taken_answer, turn_taken_body, turn_taken_given, turn_taken_head, turn_taken_returned, turn_taken_whole, upgrade as upgrades};
 ghost use Rattle.px_chain.specs.Coming.{allowed_by};
+ghost use Rattle.px_chain.specs.Going.{allowed_up_by, is_sent};
 ghost use Rattle.px_chain.specs.Sights.{Sight, server_parked};
 ghost use Rattle.px_exchange.specs.Requests.{is_head};
-ghost use Rattle.px_chain.specs.Stages.{unparked};
+ghost use Rattle.px_chain.specs.Stages.{all_sent, unparked};
+ghost use Rattle.px_stream.specs.Goings.{sends_to, sent_by, sent_of};
 ghost use Rattle.px_stream.specs.Stands.{content_in, stage_of};
-ghost use Rattle.px_stream.specs.Turns.{FirstHeld, HeldFirst, IsHeldBehind, Shows, asked_turn, taken_turn};
+ghost use Rattle.px_stream.specs.Turns.{FirstHeld, GoesUpFrom, HeldFirst, HeldUpFirst, IsHeldBehind, KeepsUp, Shows, asked_turn, connected_up, connects, dialled_sends, taken_turn, turn_gives};
 
 use crate::at::{At, Parked};
 use crate::coming::{Held, hold};
+use crate::ending::end_with;
+use crate::going::{Going, Sending, hold_request, send_to};
 use crate::phase::{Asked, Wanted};
 use px_event::{Command, Reply, Side};
 use px_exchange::asked::is_head as asks_head;
@@ -41,26 +45,40 @@ pub fn turn(
     requires few { at.old.flow < 1000000 }
     requires dials { at.old.dials < 4294967295 }
     ensures gives { (seen : Sight) → Shows at.old asked now.parked now.client_closed seen →
-        OnOk result (out.new.items ≡ out.old.items ++ (asked_turn terms.now at.old asked seen now.parked now.client_closed (record { moment = now.moment; value = reply })).owed) }
+        OnOk result (out.new.items ≡ out.old.items ++ turn_gives at.old asked reply (asked_turn terms.now at.old asked seen now.parked now.client_closed (record { moment = now.moment; value = reply })).owed) }
     ensures leads { (seen : Sight) → Shows at.old asked now.parked now.client_closed seen →
         IfOk result (λ next. stage_of at.new next ≡ sequence (asked_turn terms.now at.old asked seen now.parked now.client_closed (record { moment = now.moment; value = reply })).stage) }
     ensures content { IfOk result (λ next. content_in next ≡ []) }
     ensures held { IfOk result (λ next. FirstHeld asked next) }
+    ensures up { IfOk result (λ next. KeepsUp asked next) }
 {
     match asked {
-        Asked::Idle { flow, expects } => turn_head(now, at, flow, expects, reply, out),
+        Asked::Idle { flow, expects } => turn_head(
+            terms.streams,
+            now,
+            at,
+            flow,
+            expects,
+            reply,
+            out,
+        ),
         Asked::RequestBody { flow } => turn_body(&terms.place, now, at, flow, reply, out),
-        Asked::Connection { flow, .. } => turn_dial(&terms.place, now, at, flow, reply, out),
-        Asked::ResponseHead { flow, server } => turn_answer(
+        Asked::Connection { flow, up, .. } => {
+            turn_dial(&terms.place, now, at, flow, up, reply, out)
+        }
+        Asked::ResponseHead { flow, server, up } => turn_answer(
             terms.streams,
             now,
             at,
             flow,
             server,
+            up,
             reply,
             out,
         ),
-        Asked::ResponseBody { flow, server } => turn_returned(now, at, flow, server, reply, out),
+        Asked::ResponseBody { flow, server, up } => {
+            turn_returned(now, at, flow, server, up, reply, out)
+        }
         Asked::GivenHead { flow } => turn_given_head(now, at, flow, reply, out),
         Asked::GivenBody { flow } => turn_given_body(now, at, flow, reply, out),
     }
@@ -84,7 +102,7 @@ fn kill(now: Now, flow: Boxed<Flow>, out: &mut Vec<Command>) -> Result<Wanted, N
 }
 
 // No side is parked any more.
-fn unpark(at: &mut At)
+pub(crate) fn unpark(at: &mut At)
     ensures { at.new ≡ unparked at.old }
 {
     at.parked = None;
@@ -92,6 +110,7 @@ fn unpark(at: &mut At)
 
 // The hook of the request's head is answered.
 fn turn_head(
+    streams: bool,
     now: Now,
     at: &mut At,
     flow: Boxed<Flow>,
@@ -100,13 +119,28 @@ fn turn_head(
     out: &mut Vec<Command>,
 ) -> Result<Wanted, NoMemory>
     ensures gives { (seen : Sight) → server_parked at.old.parked seen ≡ now.parked → seen.closed ≡ now.client_closed →
-        OnOk result (out.new.items ≡ out.old.items ++ (turn_taken_head at.old flow expected (taken_at_request_head flow.request reply) now.moment seen).owed) }
+        OnOk result (out.new.items ≡ out.old.items ++ (turn_taken_head at.old flow expected (allowed_up_by streams reply) (taken_at_request_head flow.request reply) now.moment seen).owed) }
     ensures leads { (seen : Sight) →
-        IfOk result (λ next. stage_of at.new next ≡ sequence (turn_taken_head at.old flow expected (taken_at_request_head flow.request reply) now.moment seen).stage) }
+        IfOk result (λ next. stage_of at.new next ≡ sequence (turn_taken_head at.old flow expected (allowed_up_by streams reply) (taken_at_request_head flow.request reply) now.moment seen).stage) }
     ensures content { IfOk result (λ next. content_in next ≡ []) }
+    ensures held { IfOk result (λ next. HeldUpFirst flow.request next) }
 {
+    let most = allowed_up(streams, &reply);
     let taken = take_at_request_head(now.alloc, &flow.request, reply)?;
-    receive(now, at, flow, expected, taken, out)
+    receive(now, at, flow, expected, most, taken, out)
+}
+
+// The most that is kept of a request's body, by the answer to its head's hook, in a conversation that streams at all.
+fn allowed_up(streams: bool, reply: &Reply) -> Option<u64>
+    ensures { result ≡ allowed_up_by streams reply.now }
+{
+    if !streams {
+        return None;
+    }
+    match reply {
+        Reply::Go { stream, .. } => *stream,
+        _ => None,
+    }
 }
 
 // The request's body is awaited, unless the flow is killed.
@@ -115,22 +149,27 @@ fn receive(
     at: &mut At,
     flow: Boxed<Flow>,
     expected: bool,
+    most: Option<u64>,
     taken: Taken<Shared<Request>>,
     out: &mut Vec<Command>,
 ) -> Result<Wanted, NoMemory>
     ensures gives { (seen : Sight) → server_parked at.old.parked seen ≡ now.parked → seen.closed ≡ now.client_closed →
-        OnOk result (out.new.items ≡ out.old.items ++ (turn_taken_head at.old flow expected taken now.moment seen).owed) }
+        OnOk result (out.new.items ≡ out.old.items ++ (turn_taken_head at.old flow expected most taken now.moment seen).owed) }
     ensures leads { (seen : Sight) →
-        IfOk result (λ next. stage_of at.new next ≡ sequence (turn_taken_head at.old flow expected taken now.moment seen).stage) }
+        IfOk result (λ next. stage_of at.new next ≡ sequence (turn_taken_head at.old flow expected most taken now.moment seen).stage) }
     ensures content { IfOk result (λ next. content_in next ≡ []) }
+    ensures held { IfOk result (λ next. HeldUpFirst flow.request next) }
 {
     match taken {
         Taken::GoesOn(request) => {
             meet_expectation(now.alloc, expected, out)?;
+            let held = hold_request(now.alloc, flow.request.try_clone()?, most);
             Ok(Wanted::RequestBody {
                 flow: flows::with_request(flow, request),
                 given: None,
+                most,
                 body: Content::new(now.alloc),
+                held,
             })
         }
         Taken::Responds(response) => {
@@ -138,7 +177,9 @@ fn receive(
             Ok(Wanted::RequestBody {
                 flow,
                 given: Some(response),
+                most: None,
                 body: Content::new(now.alloc),
+                held: None,
             })
         }
         Taken::Kills => kill(now, flow, out),
@@ -205,12 +246,12 @@ fn go_on(
             unpark(at);
             send_request(place, now, flow, server, out)
         }
-        None => Ok(Wanted::Connection { flow }),
+        None => Ok(Wanted::Connection { flow, up: None }),
     }
 }
 
 // The number of the parked side, where this request goes to its address.
-fn parked_for(place: &Place, request: &Request, parked: &Option<Parked>) -> Option<u32>
+pub(crate) fn parked_for(place: &Place, request: &Request, parked: &Option<Parked>) -> Option<u32>
     ensures { result ≡ parked_for place.now request.now parked.now }
 {
     match parked {
@@ -234,17 +275,52 @@ fn send_request(
     out: &mut Vec<Command>,
 ) -> Result<Wanted, NoMemory>
     ensures gives { OnOk result (out.new.items ≡ out.old.items ++ connected_owes place.now flow server) }
-    ensures ready { IfOk result (λ next. next ≡ Wanted.ResponseHead (reached place.now flow) server) }
+    ensures ready { IfOk result (λ next. next ≡ Wanted.ResponseHead (reached place.now flow) server Sending.All) }
 {
     send(
         Side::Server(server),
         onward_text(now.alloc, place.form(), flow.request.get())?,
         out,
     )?;
-    let address = Shared::new(now.alloc, server_for(place, &flow)?)?;
+    let told = reach(now.alloc, place, flow)?;
     Ok(Wanted::ResponseHead {
-        flow: flows::with_server(flow, address),
+        flow: told,
         server,
+        up: Sending::All,
+    })
+}
+
+// The flow, connected to its server.
+pub(crate) fn reach(
+    alloc: Global,
+    place: &Place,
+    flow: Boxed<Flow>,
+) -> Result<Boxed<Flow>, NoMemory>
+    ensures { IfOk result (λ told. told ≡ reached place.now flow) }
+{
+    let address = Shared::new(alloc, server_for(place, &flow)?)?;
+    Ok(flows::with_server(flow, address))
+}
+
+// What came of a request that is streamed goes to the server of this number; the rest of it follows as it comes.
+fn send_going(
+    place: &Place,
+    now: Now,
+    flow: Boxed<Flow>,
+    server: u32,
+    going: Going,
+    out: &mut Vec<Command>,
+) -> Result<Wanted, NoMemory>
+    ensures gives { OnOk result (out.new.items ≡ out.old.items ++ sends_to server going.text.items) }
+    ensures ready { IfOk result (λ next. next ≡ Wanted.ResponseHead (reached place.now flow) server (Sending.GoingUp going.sent)) }
+{
+    let Going { sent, text } = going;
+    send_to(server, text, out)?;
+    let told = reach(now.alloc, place, flow)?;
+    Ok(Wanted::ResponseHead {
+        flow: told,
+        server,
+        up: Sending::GoingUp(sent),
     })
 }
 
@@ -254,24 +330,49 @@ fn turn_dial(
     now: Now,
     at: &mut At,
     flow: Boxed<Flow>,
+    up: Option<Going>,
     reply: Reply,
     out: &mut Vec<Command>,
 ) -> Result<Wanted, NoMemory>
     requires dials { at.old.dials < 4294967295 }
-    ensures gives { OnOk result (out.new.items ≡ out.old.items ++ dial_owes place.now flow at.old.dials reply now.moment now.client_closed) }
-    ensures leads { IfOk result (λ next. stage_of at.new next ≡ sequence (dial_leads place.now at.old flow reply)) }
+    ensures gives { OnOk result (out.new.items ≡ out.old.items ++ (dial_owes_by (sent_by up) place.now flow at.old.dials reply now.moment now.client_closed ++ dialled_sends at.old.dials up reply)) }
+    ensures leads { IfOk result (λ next. stage_of at.new next ≡ sequence (dial_leads place.now at.old flow (sent_by up) reply)) }
     ensures content { IfOk result (λ next. content_in next ≡ []) }
+    ensures up { IfOk result (λ next. GoesUpFrom (connected_up up) next) }
 {
     match reply {
         Reply::Dialled => {
             let server = count_server(at);
-            send_request(place, now, flow, server, out)
+            connect(place, now, flow, server, up, out)
         }
         Reply::Refused(fault) => {
+            drop(up);
             end_by_fault(now, flow, fault, Used::NoServer, out)?;
             Ok(Wanted::Over)
         }
-        _ => Ok(Wanted::Over),
+        other => {
+            drop(other);
+            drop(up);
+            Ok(give_up(flow))
+        }
+    }
+}
+
+// The server of this number is connected: the request goes to it, or what came of one that is streamed.
+fn connect(
+    place: &Place,
+    now: Now,
+    flow: Boxed<Flow>,
+    server: u32,
+    up: Option<Going>,
+    out: &mut Vec<Command>,
+) -> Result<Wanted, NoMemory>
+    ensures gives { OnOk result (out.new.items ≡ out.old.items ++ connects place.now flow server up) }
+    ensures ready { IfOk result (λ next. next ≡ Wanted.ResponseHead (reached place.now flow) server (connected_up up)) }
+{
+    match up {
+        None => send_request(place, now, flow, server, out),
+        Some(going) => send_going(place, now, flow, server, going, out),
     }
 }
 
@@ -294,18 +395,23 @@ fn turn_answer(
     at: &mut At,
     flow: Boxed<Flow>,
     server: u32,
+    up: Sending,
     reply: Reply,
     out: &mut Vec<Command>,
 ) -> Result<Wanted, NoMemory>
-    ensures gives { OnOk result (out.new.items ≡ out.old.items ++ (taken_turn (taken_at_head_of flow.response reply) (λ taken. turn_taken_answer at.old flow server (allowed_by streams reply) taken now.moment now.parked now.client_closed)).owed) }
-    ensures leads { IfOk result (λ next. stage_of at.new next ≡ sequence (taken_turn (taken_at_head_of flow.response reply) (λ taken. turn_taken_answer at.old flow server (allowed_by streams reply) taken now.moment now.parked now.client_closed)).stage) }
+    ensures gives { OnOk result (out.new.items ≡ out.old.items ++ (taken_turn (taken_at_head_of flow.response reply) (λ taken. turn_taken_answer at.old flow server (sent_of up) (allowed_by streams reply) taken now.moment now.parked now.client_closed)).owed) }
+    ensures leads { IfOk result (λ next. stage_of at.new next ≡ sequence (taken_turn (taken_at_head_of flow.response reply) (λ taken. turn_taken_answer at.old flow server (sent_of up) (allowed_by streams reply) taken now.moment now.parked now.client_closed)).stage) }
     ensures content { IfOk result (λ next. content_in next ≡ []) }
     ensures held { IfOk result (λ next. HeldFirst flow.response next) }
+    ensures up { IfOk result (λ next. GoesUpFrom up next) }
 {
     let most = allowed(streams, &reply);
     match take_at_head_of(now.alloc, &flow, reply)? {
-        Some(taken) => receive_response(now, at, flow, server, most, taken, out),
-        None => Ok(give_up(flow)),
+        Some(taken) => receive_response(now, at, flow, server, up, most, taken, out),
+        None => {
+            drop(up);
+            Ok(give_up(flow))
+        }
     }
 }
 
@@ -334,14 +440,16 @@ fn receive_response(
     at: &mut At,
     flow: Boxed<Flow>,
     server: u32,
+    up: Sending,
     most: Option<u64>,
     taken: Taken<Shared<Response>>,
     out: &mut Vec<Command>,
 ) -> Result<Wanted, NoMemory>
-    ensures gives { OnOk result (out.new.items ≡ out.old.items ++ (turn_taken_answer at.old flow server most taken now.moment now.parked now.client_closed).owed) }
-    ensures leads { IfOk result (λ next. stage_of at.new next ≡ sequence (turn_taken_answer at.old flow server most taken now.moment now.parked now.client_closed).stage) }
+    ensures gives { OnOk result (out.new.items ≡ out.old.items ++ (turn_taken_answer at.old flow server (sent_of up) most taken now.moment now.parked now.client_closed).owed) }
+    ensures leads { IfOk result (λ next. stage_of at.new next ≡ sequence (turn_taken_answer at.old flow server (sent_of up) most taken now.moment now.parked now.client_closed).stage) }
     ensures content { IfOk result (λ next. content_in next ≡ []) }
     ensures held { IfOk result (λ next. HeldFirst flow.response next) }
+    ensures up { IfOk result (λ next. GoesUpFrom up next) }
 {
     match taken {
         Taken::GoesOn(response) => {
@@ -349,12 +457,16 @@ fn receive_response(
             Ok(Wanted::ResponseBody {
                 flow: flows::with_response(flow, response),
                 server,
+                up,
                 most,
                 body: Content::new(now.alloc),
                 held,
             })
         }
-        _ => kill(now, flows::without_response(flow), out),
+        _ => {
+            drop(up);
+            kill(now, flows::without_response(flow), out)
+        }
     }
 }
 
@@ -423,17 +535,21 @@ fn turn_returned(
     at: &mut At,
     flow: Boxed<Flow>,
     server: u32,
+    up: Sending,
     reply: Reply,
     out: &mut Vec<Command>,
 ) -> Result<Wanted, NoMemory>
     requires few { at.old.flow < 1000000 }
-    ensures gives { OnOk result (out.new.items ≡ out.old.items ++ (taken_turn (taken_at_body_of flow.response reply) (λ taken. turn_taken_whole at.old flow server taken now.moment now.parked now.client_closed)).owed) }
-    ensures leads { IfOk result (λ next. stage_of at.new next ≡ sequence (taken_turn (taken_at_body_of flow.response reply) (λ taken. turn_taken_whole at.old flow server taken now.moment now.parked now.client_closed)).stage) }
+    ensures gives { OnOk result (out.new.items ≡ out.old.items ++ (taken_turn (taken_at_body_of flow.response reply) (λ taken. turn_taken_whole at.old flow server (sent_of up) taken now.moment now.parked now.client_closed)).owed) }
+    ensures leads { IfOk result (λ next. stage_of at.new next ≡ sequence (taken_turn (taken_at_body_of flow.response reply) (λ taken. turn_taken_whole at.old flow server (sent_of up) taken now.moment now.parked now.client_closed)).stage) }
     ensures content { IfOk result (λ next. content_in next ≡ []) }
 {
     match take_at_body_of(now.alloc, &flow, reply)? {
-        Some(taken) => end_exchange(now, at, flow, server, taken, out),
-        None => Ok(give_up(flow)),
+        Some(taken) => end_exchange(now, at, flow, server, up, taken, out),
+        None => {
+            drop(up);
+            Ok(give_up(flow))
+        }
     }
 }
 
@@ -443,22 +559,52 @@ fn end_exchange(
     at: &mut At,
     flow: Boxed<Flow>,
     server: u32,
+    up: Sending,
     taken: Taken<Shared<Response>>,
     out: &mut Vec<Command>,
 ) -> Result<Wanted, NoMemory>
     requires few { at.old.flow < 1000000 }
-    ensures gives { OnOk result (out.new.items ≡ out.old.items ++ (turn_taken_whole at.old flow server taken now.moment now.parked now.client_closed).owed) }
-    ensures leads { IfOk result (λ next. stage_of at.new next ≡ sequence (turn_taken_whole at.old flow server taken now.moment now.parked now.client_closed).stage) }
+    ensures gives { OnOk result (out.new.items ≡ out.old.items ++ (turn_taken_whole at.old flow server (sent_of up) taken now.moment now.parked now.client_closed).owed) }
+    ensures leads { IfOk result (λ next. stage_of at.new next ≡ sequence (turn_taken_whole at.old flow server (sent_of up) taken now.moment now.parked now.client_closed).stage) }
     ensures content { IfOk result (λ next. content_in next ≡ []) }
 {
     match taken {
-        Taken::GoesOn(response) => answer_client(now, at, flow, server, response, out),
-        _ => kill(now, flow, out),
+        Taken::GoesOn(response) => answer_client(now, at, flow, server, up, response, out),
+        _ => {
+            drop(up);
+            kill(now, flow, out)
+        }
     }
 }
 
-// The response is sent. One of code 101 ends HTTP; any other finishes the flow, and its server's side.
+// The response is sent. One of code 101 ends HTTP, where its request was whole; any other finishes the flow, and its server's side.
 fn answer_client(
+    now: Now,
+    at: &mut At,
+    flow: Boxed<Flow>,
+    server: u32,
+    up: Sending,
+    response: Shared<Response>,
+    out: &mut Vec<Command>,
+) -> Result<Wanted, NoMemory>
+    requires few { at.old.flow < 1000000 }
+    ensures gives { OnOk result (out.new.items ≡ out.old.items ++ (finish_by (is_sent (sent_of up) && response.status == 101) at.old flow (sent_of up) response server now.parked now.client_closed).owed) }
+    ensures leads { IfOk result (λ next. stage_of at.new next ≡ sequence (finish_by (is_sent (sent_of up) && response.status == 101) at.old flow (sent_of up) response server now.parked now.client_closed).stage) }
+    ensures content { IfOk result (λ next. content_in next ≡ []) }
+{
+    match up {
+        Sending::All => answer_whole(now, at, flow, server, response, out),
+        Sending::GoingUp(sent) => {
+            drop(sent);
+            unpark(at);
+            end_with(now, flow, response, out)?;
+            Ok(Wanted::Over)
+        }
+    }
+}
+
+// So of a flow whose request was sent.
+fn answer_whole(
     now: Now,
     at: &mut At,
     flow: Boxed<Flow>,
@@ -467,8 +613,8 @@ fn answer_client(
     out: &mut Vec<Command>,
 ) -> Result<Wanted, NoMemory>
     requires few { at.old.flow < 1000000 }
-    ensures gives { OnOk result (out.new.items ≡ out.old.items ++ (finish_by (response.status == 101) at.old flow response server now.parked now.client_closed).owed) }
-    ensures leads { IfOk result (λ next. stage_of at.new next ≡ sequence (finish_by (response.status == 101) at.old flow response server now.parked now.client_closed).stage) }
+    ensures gives { OnOk result (out.new.items ≡ out.old.items ++ (finish_by (response.status == 101) at.old flow all_sent response server now.parked now.client_closed).owed) }
+    ensures leads { IfOk result (λ next. stage_of at.new next ≡ sequence (finish_by (response.status == 101) at.old flow all_sent response server now.parked now.client_closed).stage) }
     ensures content { IfOk result (λ next. content_in next ≡ []) }
 {
     if response.get().status.code() == 101 {
@@ -554,8 +700,8 @@ fn finish_flow(
     out: &mut Vec<Command>,
 ) -> Result<Wanted, NoMemory>
     requires few { at.old.flow < 1000000 }
-    ensures gives { OnOk result (out.new.items ≡ out.old.items ++ (finishes at.old flow response used parked now.client_closed).owed) }
-    ensures leads { IfOk result (λ next. stage_of at.new next ≡ sequence (finishes at.old flow response used parked now.client_closed).stage) }
+    ensures gives { OnOk result (out.new.items ≡ out.old.items ++ (finishes at.old flow all_sent response used parked now.client_closed).owed) }
+    ensures leads { IfOk result (λ next. stage_of at.new next ≡ sequence (finishes at.old flow all_sent response used parked now.client_closed).stage) }
     ensures content { IfOk result (λ next. content_in next ≡ []) }
 {
     let stays = finish(now, at.flow, flow, response, used, parked, out)?;

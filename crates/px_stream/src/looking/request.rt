@@ -14,6 +14,7 @@ ghost use Rattle.px_stream.specs.Looks.{BehindJudged, BodyFound, GaveNext, HeadR
 ghost use Rattle.px_exchange.specs.Requests.{expects as expecting, flow_of, judged, is_head as asks_head};
 
 use super::{ask_given_head, fail, leave};
+use crate::going::HeldRequest;
 use crate::phase::{Asked, Phase, Wanted};
 use px_event::{Command, Hook};
 use px_exchange::asked::{Judged, expects, is_head, judge};
@@ -150,15 +151,17 @@ pub fn look_for_body(
     requests: &mut MessageReader,
     flow: Boxed<Flow>,
     given: Option<Shared<Response>>,
+    most: Option<u64>,
     body: Content,
+    held: Option<HeldRequest>,
     out: &mut Vec<Command>,
 ) -> Result<Phase, NoMemory>
     requires reads { IsReading requests.old }
-    ensures looks { IfOk result (λ next. BodyFound flow given body requests.old requests.new now.moment now.parked now.client_closed out.old.items out.new.items next) }
+    ensures looks { IfOk result (λ next. BodyFound flow given most body held requests.old requests.new now.moment now.parked now.client_closed out.old.items out.new.items next) }
 {
     let mut body = body;
     let progress = read_body(requests, &mut body)?;
-    look_at_body(now, flow, given, progress, body, out)
+    look_at_body(now, flow, given, most, progress, body, held, out)
 }
 
 // What is made of the body, as far as it has come.
@@ -166,30 +169,41 @@ fn look_at_body(
     now: Now,
     flow: Boxed<Flow>,
     given: Option<Shared<Response>>,
+    most: Option<u64>,
     progress: Progress,
     body: Content,
+    held: Option<HeldRequest>,
     out: &mut Vec<Command>,
 ) -> Result<Phase, NoMemory>
     ensures gives { OnOk result (out.new.items ≡ out.old.items ++ body_gives flow given progress body now.moment now.parked now.client_closed) }
-    ensures phase { IfOk result (λ next. next ≡ body_phase flow given progress body now.moment now.client_closed) }
+    ensures phase { IfOk result (λ next. next ≡ body_phase flow given most progress body held now.moment now.client_closed) }
 {
     match progress {
         Progress::Whole(trailers) => {
+            drop(held);
             let flow = flows::with_body(now, flow, body, trailers)?;
             ask_whole(now, flow, given, out)
         }
         Progress::Bad(fault) => {
             drop(body);
             drop(given);
+            drop(held);
             fail(now, flow, fault, now.parked, out)
         }
         Progress::Missing => {
             if now.client_closed {
                 drop(body);
                 drop(given);
+                drop(held);
                 return leave(now, flow, now.parked, out);
             }
-            Ok(Phase::Ready(Wanted::RequestBody { flow, given, body }))
+            Ok(Phase::Ready(Wanted::RequestBody {
+                flow,
+                given,
+                most,
+                body,
+                held,
+            }))
         }
     }
 }

@@ -5,7 +5,7 @@ pub returns-clause-replies : goal.returns-clause-replies
 returns-clause-replies c = λ made stage seen answer. turns_in_order made stage seen answer
 
 pub returns-clause-passes : goal.returns-clause-passes
-returns-clause-passes c = λ stage seen. passes_in_order stage seen
+returns-clause-passes c = λ made stage seen. passes_in_order made stage seen
 
 pub returns-clause-ends : goal.returns-clause-ends
 returns-clause-ends c = λ made stage seen. looks_in_order made stage seen

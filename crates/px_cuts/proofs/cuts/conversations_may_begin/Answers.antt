@@ -2,4 +2,4 @@ use Rattle.px_cuts.proofs.PlaceLaws.{begins}
 use Rattle.px_cuts.proofs.cuts.conversations_may_begin.Goals as goal
 
 pub returns : goal.returns
-returns c = λ at below. begins at below
+returns c = λ made at below. begins made at below

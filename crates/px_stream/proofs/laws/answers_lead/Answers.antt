@@ -2,12 +2,13 @@ use Rattle.std.proofs.Common.{ap, sym, ◌∙◌}
 use Rattle.px_chain.specs.Stages.{place_of}
 use Rattle.px_stream.specs.Turns.{asked_turn}
 use Rattle.px_stream.proofs.AskLemmas.{used_asked}
-use Rattle.px_stream.proofs.TurnLemmas.{turn_asked, turned}
+use Rattle.px_stream.proofs.TurnAskedLemmas.{turn_asked}
+use Rattle.px_stream.proofs.TurnLemmas.{turned}
 use Rattle.px_stream.proofs.laws.answers_lead.Goals as goal
 
 pub returns-clause-turn : goal.returns-clause-turn
-returns-clause-turn c made stage seen answer found used is uses =
-    turn_asked made seen answer stage found is
+returns-clause-turn c made stage seen answer found used is how uses =
+    turn_asked made seen answer stage found is how
     ∙ ap (λ u. asked_turn made (place_of stage) found seen u seen.closed answer) (sym (used_asked made stage seen found is) ∙ uses)
 
 pub returns-clause-readers : goal.returns-clause-readers

@@ -2,4 +2,4 @@ use Rattle.px_stream.proofs.PassesLemmas.{passes_follow}
 use Rattle.px_stream.proofs.laws.passes_follow.Goals as goal
 
 pub returns : goal.returns
-returns c made = passes_follow
+returns c = passes_follow

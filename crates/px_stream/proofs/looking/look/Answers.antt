@@ -34,23 +34,23 @@ pub returns-in-Connection : goal.returns-in-Connection
 returns-in-Connection c =
     let Given : ℕ → List Command = λ server. commands.Dial server (dialled_for c.args.terms.now.place c.in-Connection.flow.request) None ∷ shut_server c.args.now.parked in
     let P : At → Type 0 = λ at. IfOk c.dial.result (λ next. (c.args.side.now ≡ c.args.side.now)
-    × FoundAtOnce c.args.requests.now c.args.requests.now (Given at.dials) c.args.out.now.items c.dial.new.out.items (phase.Asked (asked.Connection c.in-Connection.flow at.dials)) next) in
+    × FoundAtOnce c.args.requests.now c.args.requests.now (Given at.dials) c.args.out.now.items c.dial.new.out.items (phase.Asked (asked.Connection c.in-Connection.flow at.dials c.in-Connection.up)) next) in
     record {
       looks = rw c.in-Connection.is (subst P c.at.view_is (at_once c.dial.result c.args.side.now c.args.requests.now (Given c.at.inside.dials) c.args.out.now.items c.dial.new.out.items
-          (phase.Asked (asked.Connection c.in-Connection.flow c.at.inside.dials)) c.dial.ensures.gives c.dial.ensures.phase));
+          (phase.Asked (asked.Connection c.in-Connection.flow c.at.inside.dials c.in-Connection.up)) c.dial.ensures.gives c.dial.ensures.phase));
     }
 
 pub look_for_answer-requires : goal.look_for_answer-requires
 look_for_answer-requires c = record { kept = rw c.in-ResponseHead.is at c.requires.may_look }
 
 pub returns-in-ResponseHead : goal.returns-in-ResponseHead
-returns-in-ResponseHead c = record { looks = rw c.in-ResponseHead.is (besides c.look_for_answer.result c.args.requests.now _ c.look_for_answer.ensures.looks) }
+returns-in-ResponseHead c = record { looks = rw c.in-ResponseHead.is c.look_for_answer.ensures.looks }
 
 pub look_for_returned-requires : goal.look_for_returned-requires
 look_for_returned-requires c = record { reads = rw c.in-ResponseBody.is at c.requires.may_look }
 
 pub returns-in-ResponseBody : goal.returns-in-ResponseBody
-returns-in-ResponseBody c = record { looks = rw c.in-ResponseBody.is (besides c.look_for_returned.result c.args.requests.now _ c.look_for_returned.ensures.looks) }
+returns-in-ResponseBody c = record { looks = rw c.in-ResponseBody.is c.look_for_returned.ensures.looks }
 
 pub returns-in-GivenHead : goal.returns-in-GivenHead
 returns-in-GivenHead c = record {

@@ -10,8 +10,8 @@ pub returns : goal.returns
 returns c =
     let P : Bool → Type 0 = λ sends. StaysOpen (λ link later. ReadsAnswer c.in_ok-answer.answer sends link c.args.out.now.items later c.read_side.new.out.items) c.args.side.now c.read_side.new.side in
     record {
-      looks = answer_found c.look_at_answer.result c.args.flow c.args.server c.args.side.now c.read_side.new.side c.args.now.moment c.args.now.parked c.args.now.client_closed
-          c.args.out.now.items c.read_side.new.out.items c.look_at_answer.new.out.items _
+      looks = answer_found c.look_at_both.result c.args.flow c.args.server c.args.up c.in_ok-bad.bad c.args.requests.now c.read_up.new.requests c.args.side.now c.read_side.new.side c.args.now.moment c.args.now.parked
+          c.args.now.client_closed c.args.out.now.items c.read_side.new.out.items c.look_at_both.new.out.items _ c.in_ok-bad.ensures
           (subst P (c.asks_http11-sends.ensures ∙ ap (λ (f : Flow). is_http11 f.request.version) c.deref.ensures) c.in_ok-answer.ensures)
-          c.look_at_answer.ensures.gives c.look_at_answer.ensures.phase;
+          c.look_at_both.ensures.gives c.look_at_both.ensures.phase;
     }

@@ -1,4 +1,4 @@
-use Rattle.px_stream.proofs.CallLemmas.{heard_by}
+use Rattle.px_stream.proofs.StepLemmas.{heard_by}
 use Rattle.px_stream.proofs.stream.Stream.hear.Goals as goal
 
 pub returns-clause-hears : goal.returns-clause-hears

@@ -1,5 +1,5 @@
 use Rattle.std.proofs.Common.{refl, sym}
-use Rattle.px_stream.proofs.CallLemmas.{look_as}
+use Rattle.px_stream.proofs.StepLemmas.{look_as}
 use Rattle.px_stream.proofs.stream.Stream.look.Goals as goal
 
 pub returns : goal.returns

@@ -30,6 +30,18 @@ hear-requires-clause-agrees c =
     let goes : is_last (phase.Ready c.take_looked-ready.result) ≡ false = ap is_last (sym c.take_looked-ready.ensures) ∙ (sym c.ended.ensures ∙ c.if-ended.false) in
     (hears_anywhere c.args.self.now c.args.event.now c.requires.somewhere c.take_looked-ready.result c.take_looked-ready.ensures goes).agrees
 
+pub advance-requires-clause-goes_up : goal.advance-requires-clause-goes_up
+advance-requires-clause-goes_up c =
+    let goes : is_last (phase.Ready c.take_looked-ready.result) ≡ false = ap is_last (sym c.take_looked-ready.ensures) ∙ (sym c.ended.ensures ∙ c.if-ended.false) in
+    let may = hears_anywhere c.args.self.now c.args.event.now c.requires.somewhere c.take_looked-ready.result c.take_looked-ready.ensures goes in
+    (advances_heard c.args.self.now c.hear.new.self _ c.args.event.now c.take_looked-ready.result may c.in-Ok.ensures.hears).goes_up
+
+pub advance-requires-clause-takes : goal.advance-requires-clause-takes
+advance-requires-clause-takes c =
+    let goes : is_last (phase.Ready c.take_looked-ready.result) ≡ false = ap is_last (sym c.take_looked-ready.ensures) ∙ (sym c.ended.ensures ∙ c.if-ended.false) in
+    let may = hears_anywhere c.args.self.now c.args.event.now c.requires.somewhere c.take_looked-ready.result c.take_looked-ready.ensures goes in
+    (advances_heard c.args.self.now c.hear.new.self _ c.args.event.now c.take_looked-ready.result may c.in-Ok.ensures.hears).takes
+
 pub advance-requires-clause-passes : goal.advance-requires-clause-passes
 advance-requires-clause-passes c =
     let goes : is_last (phase.Ready c.take_looked-ready.result) ≡ false = ap is_last (sym c.take_looked-ready.ensures) ∙ (sym c.ended.ensures ∙ c.if-ended.false) in

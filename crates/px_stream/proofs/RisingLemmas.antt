@@ -1,0 +1,150 @@
+-- Behind what was sent on of a request the stream may pass, and look.
+use Rattle.std.proofs.Common.{◌≡◌, ◌<◌, ℕ, Bool, true, false, List, [], ◌++◌, length, Option, Some, None, refl, ap, sym, ◌∙◌, subst}
+use Rattle.px_message.specs.declared.flow.Flow.{Flow}
+use Rattle.px_message.specs.declared.request.Request.{Request}
+use Rattle.px_message.specs.declared.response.Response.{Response}
+use Rattle.px_event.specs.declared.command.Command.{Command}
+use Rattle.px_read.specs.Reader.{State}
+use Rattle.px_exchange.specs.declared.body.Progress.{Progress}
+use Rattle.px_exchange.specs.declared.body.Progress.TheVariants as progress
+use Rattle.px_exchange.specs.declared.place.Place.{Place}
+use Rattle.px_exchange.specs.Bodies.{IsReading}
+use Rattle.px_exchange.specs.Requests.{is_head}
+use Rattle.px_chain.specs.Chain.{parked_for}
+use Rattle.px_chain.specs.Going.{sending_on}
+use Rattle.px_chain.specs.Stages.{At, Parked}
+use Rattle.px_stream.specs.declared.going.HeldRequest.{HeldRequest}
+use Rattle.px_stream.specs.declared.going.Sending.{Sending}
+use Rattle.px_stream.specs.declared.going.Sending.TheVariants as sending
+use Rattle.px_stream.specs.declared.link.Link.{Link}
+use Rattle.px_stream.specs.declared.phase.Wanted.{Wanted}
+use Rattle.px_stream.specs.declared.phase.Wanted.TheVariants as ready
+use Rattle.px_stream.specs.declared.stream.Stream.{Stream}
+use Rattle.px_stream.specs.Comings.{CollectsHeld}
+use Rattle.px_stream.specs.GoingUp.{GoesUp, GoesUpOnce, HeldUpWent, LedUp, MayGoUp, MayTakeSide, ParkedOpen, RaisedBy, begins_with, up_flow}
+use Rattle.px_stream.specs.Goings.{goes_up_with}
+use Rattle.px_stream.specs.Looks.{MayLook}
+use Rattle.px_stream.specs.Passes.{MayPass, MayRead, is_passing}
+use Rattle.px_stream.specs.Responses.{IsKept}
+use Rattle.px_stream.specs.Stands.{IsOpen, IsSome}
+use Rattle.px_stream.specs.Turns.{opened_side}
+use Rattle.px_stream.proofs.UnreadLemmas.{unread_reads}
+
+-- it may pass, and look where nothing is passed
+pub record MayGoOn (at : At) (next : Wanted) (requests : State) (side : Option Link) : Type 0 where
+  pub passes : MayPass at next side
+  pub looks : is_passing next ≡ false → MayLook next requests side
+
+-- the flow has the response that it had
+told_response : (got : Progress) (flow : Flow) (moment : ℕ) → (up_flow got flow moment).response ≡ flow.response
+told_response (progress.Whole trailers) flow moment = refl
+told_response progress.Missing flow moment = refl
+told_response (progress.Bad fault) flow moment = refl
+
+raised_response : (up : Sending) (moment : ℕ) (flow : Flow) (server : ℕ) (told : Flow) (next : Sending) (old new : State) (out longer : List Command) → RaisedBy up moment flow server told next old new out longer →
+    told.response ≡ flow.response
+raised_response sending.All moment flow server told next old new out longer is = ap (λ (f : Flow). f.response) is.is_told
+raised_response (sending.GoingUp sent) moment flow server told next old new out longer is =
+    ap (λ (f : Flow). f.response) is.went.is_told ∙ told_response is.got flow moment
+
+-- so its response may be read on
+reads_on : (at now : At) (flow told : Flow) (side later : Option Link) → now ≡ at → later ≡ side → told.response ≡ flow.response → MayRead at flow side → MayRead now told later
+reads_on at now flow told side later same beside is may = record {
+  few = subst (λ (a : At). a.flow < 1000000) (sym same) may.few;
+  given = subst (λ (o : Option Response). IsSome o) (sym is) may.given;
+  reads = subst (λ s. IsOpen (λ link. IsReading link.responses) s) (sym beside) may.reads;
+}
+
+-- the side that was parked is one of which all is to be read
+opened_kept : (server : ℕ) (asked_head : Bool) (side : Option Link) → IsSome side → IsOpen IsKept (opened_side false server asked_head side)
+opened_kept server asked_head None is = absurd is
+opened_kept server asked_head (Some link) is = record {
+  asked_head = asked_head;
+  number = link.server;
+  bytes = link.responses.rest;
+  shut = link.closed;
+  sent = [];
+  keeps = unread_reads asked_head link.server link.responses.rest link.closed;
+}
+
+parked_there : (place : Place) (message : Request) (parked : Option Parked) (server : ℕ) (side : Option Link) → parked_for place message parked ≡ Some server → ParkedOpen parked side → IsSome side
+parked_there place message None server side is may = absurd (let no : None ≡ Some server = is in cc)
+parked_there place message (Some parked) server side is may = may
+
+led_on : (o : Option ℕ) (place : Place) (at now : At) (moment : ℕ) (flow : Flow) (message sent : Request) (got : Progress) (text : List ℕ) (next : Wanted) (requests : State) (side later : Option Link) (out longer : List Command) →
+    parked_for place message at.parked ≡ o → ParkedOpen at.parked side → LedUp o place at now moment flow sent got text next side later out longer → MayGoOn now next requests later
+led_on None place at now moment flow message sent got text next requests side later out longer is may led =
+    let P : Wanted → Type 0 = λ n. MayGoOn now n requests later in subst P (sym led.is_there) (record { passes = tt; looks = λ none. tt })
+led_on (Some server) place at now moment flow message sent got text next requests side later out longer is may led =
+    let P : Wanted → Type 0 = λ n. MayGoOn now n requests later in
+    subst P (sym led.is_there) (record {
+      passes = tt;
+      looks = λ none. subst (IsOpen IsKept) (sym led.opens) (opened_kept server (is_head flow.request.method) side (parked_there place message at.parked server side is may));
+    })
+
+collected : (old new : State) (content said body longer : List ℕ) → CollectsHeld old content said new body longer → IsReading old → IsReading new
+collected old new content said body longer held is = record {
+  message = is.message;
+  told = is.told ++ held.marks;
+  fed = is.fed;
+  closed = is.closed;
+  reads = held.reads is.message is.told is.fed is.closed is.reads;
+}
+
+held_on : (b : Bool) (place : Place) (at now : At) (moment : ℕ) (flow : Flow) (given : Option Response) (most : Option ℕ) (body : List ℕ) (held : HeldRequest) (got : Progress) (next : Wanted) (requests : State)
+    (side later : Option Link) (out longer : List Command) → ParkedOpen at.parked side → IsReading requests →
+    HeldUpWent b place at now moment flow given most body held got next side later out longer → MayGoOn now next requests later
+held_on true place at now moment flow given most body held got next requests side later out longer may reading went =
+    led_on (parked_for place flow.request at.parked) place at now moment (sending_on flow) flow.request went.sent got _ next requests side later out longer refl may went.led
+held_on false place at now moment flow given most body held got next requests side later out longer may reading went =
+    let P : Wanted → Type 0 = λ n. MayGoOn now n requests later in subst P (sym went.is_there) (record { passes = tt; looks = λ none. reading })
+
+module _ (place : Place) (at now : At) (moment : ℕ) (next : Wanted) (old new : State) (side later : Option Link) (out longer : List Command) where
+  abbrev Goes : Wanted → Type 0
+  Goes looked = GoesUp place at now moment looked next old new side later out longer
+
+  rests_on : (looked : Wanted) → now ≡ at → next ≡ looked → later ≡ side → new ≡ old → MayPass at looked side → (is_passing looked ≡ false → MayLook looked old side) → MayGoOn now next new later
+  rests_on looked one two three four passes looks =
+      let P : Wanted → Type 0 = λ n. MayGoOn now n new later in
+      subst P (sym two) (record {
+        passes = subst (λ a. MayPass a looked later) (sym one) (subst (λ s. MayPass at looked s) (sym three) passes);
+        looks = λ none. subst (λ r. MayLook looked r later) (sym four) (subst (λ s. MayLook looked old s) (sym three) (looks none));
+      })
+
+  goes_on : (looked : Wanted) → MayGoUp looked old → MayTakeSide at looked side → MayPass at looked side → (is_passing looked ≡ false → MayLook looked old side) → Goes looked → MayGoOn now next new later
+  goes_on (ready.RequestBody flow given most body (Some held)) reads takes passes looks goes =
+      held_on (begins_with place at flow side (goes_up_with held.read most (length goes.body))) place at now moment flow given most goes.body goes.more goes.got next new side later out longer takes
+      (collected old new body held.said.items goes.body goes.more.said.items goes.read.over reads) goes.went
+  goes_on (ready.ResponseHead flow server up) reads takes passes looks goes =
+      let P : Wanted → Type 0 = λ n. MayGoOn now n new later in
+      subst P (sym goes.is_there) (record { passes = tt; looks = λ none. subst (IsOpen IsKept) (sym goes.same_side) (looks refl) })
+  goes_on (ready.ResponseBody flow server up most body (Some held)) reads takes passes looks goes =
+      let P : Wanted → Type 0 = λ n. MayGoOn now n new later in
+      subst P (sym goes.is_there) (record {
+        passes = reads_on at now flow goes.told side later goes.same goes.same_side (raised_response up moment flow server goes.told goes.goes old new out longer goes.raised) passes;
+        looks = λ none. absurd (let no : true ≡ false = none in cc);
+      })
+  goes_on (ready.ResponseBody flow server up most body None) reads takes passes looks goes =
+      let P : Wanted → Type 0 = λ n. MayGoOn now n new later in
+      subst P (sym goes.is_there) (record { passes = tt; looks = λ none. subst (λ s. IsOpen (λ link. IsReading link.responses) s) (sym goes.same_side) (looks refl) })
+  goes_on (ready.ComingDown flow server up its) reads takes passes looks goes =
+      let P : Wanted → Type 0 = λ n. MayGoOn now n new later in
+      subst P (sym goes.is_there) (record {
+        passes = reads_on at now flow goes.told side later goes.same goes.same_side (raised_response up moment flow server goes.told goes.goes old new out longer goes.raised) passes;
+        looks = λ none. absurd (let no : true ≡ false = none in cc);
+      })
+  goes_on ready.Idle reads takes passes looks (rests, same) = rests_on ready.Idle rests.same rests.is_there rests.same_side same passes looks
+  goes_on (ready.RequestBody flow given most body None) reads takes passes looks (rests, same) =
+      rests_on (ready.RequestBody flow given most body None) rests.same rests.is_there rests.same_side same passes looks
+  goes_on (ready.Connection flow up) reads takes passes looks (rests, same) = rests_on (ready.Connection flow up) rests.same rests.is_there rests.same_side same passes looks
+  goes_on (ready.Upgraded flow server) reads takes passes looks (rests, same) = rests_on (ready.Upgraded flow server) rests.same rests.is_there rests.same_side same passes looks
+  goes_on (ready.GivenHead flow) reads takes passes looks (rests, same) = rests_on (ready.GivenHead flow) rests.same rests.is_there rests.same_side same passes looks
+  goes_on (ready.GivenBody flow) reads takes passes looks (rests, same) = rests_on (ready.GivenBody flow) rests.same rests.is_there rests.same_side same passes looks
+  goes_on (ready.Connects address) reads takes passes looks (rests, same) = rests_on (ready.Connects address) rests.same rests.is_there rests.same_side same passes looks
+  goes_on ready.Over reads takes passes looks (rests, same) = rests_on ready.Over rests.same rests.is_there rests.same_side same passes looks
+
+-- It may pass, and look.
+pub may_go_on : (before after : Stream) (moment : ℕ) (looked next : Wanted) (out longer : List Command) → MayGoUp looked before.requests → MayTakeSide before.at looked before.side → MayPass before.at looked before.side →
+    (is_passing looked ≡ false → MayLook looked before.requests before.side) → GoesUpOnce before after moment looked next out longer → MayGoOn after.at next after.requests after.side
+may_go_on before after moment looked next out longer reads takes passes looks once =
+    goes_on before.terms.place before.at after.at moment next before.requests after.requests before.side after.side out longer looked reads takes passes looks once.goes
