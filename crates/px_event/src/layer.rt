@@ -12,7 +12,7 @@
 //!
 //! A relation that always holds meets this trait. The strength of a layer is its own public relation, and the clause of
 //! its constructor: a new one stands for itself, as it was made, by no moves, and has given nothing.
-ghost use Rattle.std.specs.Prelude.{◌≡◌, ◌+◌, ◌-◌, ◌*◌, ◌^◌, ◌<◌, ◌≤◌, ℕ, Bool, List, None, Option, OnOk, min};
+ghost use Rattle.std.specs.Prelude.{◌≡◌, ◌+◌, ◌-◌, ◌*◌, ◌^◌, ◌<◌, ◌≤◌, ℕ, Bool, true, List, None, Option, OnOk, min};
 ghost use Rattle.px_event.specs.Layer.{Move, Took, Replied, IsSound, Goes, AsksOnly, MayAnswer, IsNews, weight};
 ghost use Rattle.px_event.specs.declared.command.Command.{Command as GivenCommand};
 ghost use Rattle.px_event.specs.declared.ask.Ask.{Ask as AwaitedAsk};
@@ -37,6 +37,9 @@ pub trait Layer: Drop {
     /// The number of bytes that the state keeps, without its flow but for a streamed message's body and trailers, the
     /// addresses, the mask key, queued events and waiting bytes.
     ghost kept: { Self → ℕ };
+
+    /// Whether it keeps no message's body, and awaits nothing: where it stands for something, what it keeps then has a bound.
+    ghost keeps_no_body: { Self → Bool };
 
     /// Whether nothing more will come of it.
     ghost ended: { Self → Bool };
@@ -67,9 +70,10 @@ pub trait Layer: Drop {
     fn waiting(&self) -> Option<Ask>
         ensures { result ≡ awaited self.now };
 
-    /// How many bytes it keeps, or 2^64 - 1 where that is more.
+    /// How many bytes it keeps, or 2^64 - 1 where that is more: at most twice 65,536 + 1,024 where it keeps no body.
     fn kept(&self) -> usize
-        ensures { result ≡ min (kept self.now) (2 ^ 64 - 1) };
+        ensures kept { result ≡ min (kept self.now) (2 ^ 64 - 1) }
+        ensures bound { IsSound stands self.now → keeps_no_body self.now ≡ true → kept self.now ≤ 133120 };
 
     /// Whether nothing more will come of it: its conversation has ended, or another layer follows.
     fn ended(&self) -> bool

@@ -1,7 +1,7 @@
 //! A conversation: one flow after the other.
 ghost use Rattle.std.specs.Prelude.{◌≡◌, ◌≤◌, ◌<◌, ◌+◌, ◌-◌, ◌^◌, List, [], None, IfOk, OnOk, min, option_map, true};
 ghost use Rattle.px_event.specs.Chain.{Timed};
-ghost use Rattle.px_event.specs.Layer.{AsksOnly, MayAnswer, Move};
+ghost use Rattle.px_event.specs.Layer.{AsksOnly, IsSound, MayAnswer, Move};
 ghost use Rattle.px_event.specs.declared.command.Command.{Command as GivenCommand};
 ghost use Rattle.px_event.specs.declared.event.Event.{Event as Heard};
 ghost use Rattle.px_http.specs.Stands.{HttpStands, awaits, seen_at, stage_at};
@@ -232,7 +232,7 @@ impl Layer for HttpConv {
     ghost use Rattle.std.specs.Prelude.{ℕ, List};
     ghost use Rattle.px_http.specs.Stands.{HttpStands, awaits};
     ghost use Rattle.px_stream.specs.Stands.{is_last};
-    ghost use Rattle.px_stream.specs.Tells.{sequence_left, stream_keeps};
+    ghost use Rattle.px_stream.specs.Tells.{keeps_no_body, sequence_left, stream_keeps};
 
     ghost stands = { HttpStands };
 
@@ -243,6 +243,8 @@ impl Layer for HttpConv {
     ghost rate = { λ state. 0 };
 
     ghost kept = { λ state. stream_keeps state.stream };
+
+    ghost keeps_no_body = { λ state. keeps_no_body state.stream.phase };
 
     ghost ended = { λ state. is_last state.stream.phase };
 
@@ -266,7 +268,7 @@ impl Layer for HttpConv {
     fn kept(&self) -> usize
         ensures kept { result ≡ min (stream_keeps self.now.stream) (2 ^ 64 - 1) }
         ensures there { (made : Made) (place : Standing) (prefix : List (Timed Heard)) → IsAt made self.now.stream place prefix → keeps_no_body self.now.stream.phase ≡ true → KeepsLittle self.now.stream }
-        ensures bound { (made : HttpConv) (moves : List Move) (given : List GivenCommand) → HttpStands made self.now moves given → keeps_no_body self.now.stream.phase ≡ true → KeepsLittle self.now.stream }
+        ensures bound { IsSound HttpStands self.now → keeps_no_body self.now.stream.phase ≡ true → stream_keeps self.now.stream ≤ 133120 }
     {
         self.stream.kept()
     }

@@ -10,7 +10,7 @@ use px_event::{Ask, Chained, Command, Event, Layer, Reply};
 use px_text::NoMemory;
 
 impl Layer for WsLayer {
-    ghost use Rattle.std.specs.Prelude.{ℕ, List};
+    ghost use Rattle.std.specs.Prelude.{ℕ, List, false};
     ghost use Rattle.px_relay.specs.Kept.{ws_keeps, ws_left};
     ghost use Rattle.px_relay.specs.Stands.{WsStands, awaits, is_over};
 
@@ -23,6 +23,8 @@ impl Layer for WsLayer {
     ghost rate = { λ state. 1 };
 
     ghost kept = { ws_keeps };
+
+    ghost keeps_no_body = { λ state. false };
 
     ghost ended = { λ state. is_over state.phase };
 

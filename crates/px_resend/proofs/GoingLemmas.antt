@@ -1,5 +1,5 @@
 -- A flow that goes on: what the calls of its stream do, those of the request do, without what is said to a client.
-use Rattle.std.proofs.Common.{◌≡◌, ◌≤◌, ◌<◌, ℕ, List, [], ◌∷◌, ◌++◌, map, refl, ap, sym, ◌∙◌, subst, arith, append_assoc}
+use Rattle.std.proofs.Common.{◌≡◌, ◌≤◌, ◌<◌, true, ℕ, List, [], ◌∷◌, ◌++◌, map, refl, ap, sym, ◌∙◌, subst, arith, append_assoc}
 use Rattle.std.specs.Prelude.{IfOk, Result, Ok, Err}
 use Rattle.std.specs.Global.{Box}
 use Rattle.std.specs.List.{flat_map}
@@ -25,13 +25,14 @@ use Rattle.px_chain.specs.Stages.{all_sent, busy, coming_down, connection, given
 use Rattle.px_chain.specs.Stages as flows
 use Rattle.px_stream.specs.declared.stream.Stream.{Stream}
 use Rattle.px_stream.specs.Anywhere.{IsInSequence, ResumesAnywhere, Somewhere, TakesAnywhere}
-use Rattle.px_stream.specs.Tells.{sequence_left}
-use Rattle.px_stream.specs.Stands.{awaits, sent_at}
+use Rattle.px_stream.specs.Tells.{KeepsLittle, sequence_left}
+use Rattle.px_stream.specs.Tells as streams
+use Rattle.px_stream.specs.Stands.{IsAt, awaits, sent_at}
 use Rattle.px_resend.specs.declared.child.Child.{Child}
 use Rattle.px_resend.specs.declared.child.Child.TheVariants as children
 use Rattle.px_resend.specs.Chain.{Stage, asks_head, asks_whole, flows_of, goes_on, over, resend_chain, waiting}
 use Rattle.px_resend.specs.Heard.{all_of_servers, of_servers, to_servers}
-use Rattle.px_resend.specs.Kept.{awaited_by, left_by}
+use Rattle.px_resend.specs.Kept.{awaited_by, keeps_no_body, kept_by, left_by}
 use Rattle.px_resend.specs.Laws.{same_unless}
 use Rattle.px_resend.specs.Stands.{IsChild, IsSomewhere, IsUnparked, Keeps, KeepsBy}
 use Rattle.px_resend.specs.Steps.{Adds, Follows, ResumesChild, TakesChild}
@@ -72,6 +73,14 @@ is_kept : (terms : Terms) (recorded : Request) (boxed : Box Stream) (stage : Sta
     IsKept terms boxed stage prefix
 is_kept terms recorded boxed stage prefix is =
     keeps_going terms boxed stage prefix (kept_by_look ((resend_chain terms recorded).look stage prefix) terms boxed stage prefix is)
+
+-- Where neither direction keeps a body, all that is kept is little.
+pub flow_little : (terms : Terms) (recorded : Request) (child : Child) (boxed : Box Stream) (stage : Stage) (prefix : List (Timed Event)) → child ≡ children.GoesOn boxed →
+    ((made : Terms) (place : Standing) (over : List (Timed Event)) → IsAt made boxed.value place over → streams.keeps_no_body boxed.value.phase ≡ true → KeepsLittle boxed.value) →
+    IsChild terms recorded child stage prefix → keeps_no_body child ≡ true → kept_by child ≤ 133120
+flow_little terms recorded child boxed stage prefix same little is keeps =
+    let kept = is_kept terms recorded boxed stage prefix (subst (λ c. IsChild terms recorded c stage prefix) same is) in
+    subst (λ c. kept_by c ≤ 133120) (sym same) (little terms kept.place (all_of_servers prefix) kept.there.is_at (ap keeps_no_body (sym same) ∙ keeps)).all
 
 -- so its stream is somewhere
 pub somewhere : (terms : Terms) (recorded : Request) (boxed : Box Stream) → IsSomewhere terms recorded (children.GoesOn boxed) → Somewhere boxed.value

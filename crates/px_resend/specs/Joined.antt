@@ -64,6 +64,10 @@ abbrev pub kept_by : {L : Type 0} → (L → ℕ) → Conversation L → ℕ
 kept_by kept (conversations.Client layer) = kept layer
 kept_by kept (conversations.Resent resent) = resend.kept_by resent.child
 
+abbrev pub no_body_by : {L : Type 0} → (L → Bool) → Conversation L → Bool
+no_body_by no_body (conversations.Client layer) = no_body layer
+no_body_by no_body (conversations.Resent resent) = resend.keeps_no_body resent.child
+
 abbrev pub ended_by : {L : Type 0} → (L → Bool) → Conversation L → Bool
 ended_by ended (conversations.Client layer) = ended layer
 ended_by ended (conversations.Resent resent) = resend.is_over resent.child

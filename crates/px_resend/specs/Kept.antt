@@ -5,6 +5,7 @@ use Rattle.px_event.specs.declared.ask.Hook.TheVariants.{RequestHead, RequestBod
 use Rattle.px_exchange.specs.Flows.{hook_of}
 use Rattle.px_chain.specs.Left.{behind_left}
 use Rattle.px_stream.specs.Tells.{sequence_left, stream_keeps}
+use Rattle.px_stream.specs.Tells as streams
 use Rattle.px_stream.specs.Stands.{awaits}
 use Rattle.px_resend.specs.declared.child.Child.{Child}
 use Rattle.px_resend.specs.declared.child.Child.TheVariants as children
@@ -26,6 +27,11 @@ left_by (children.AsksHead flow) = going_left + 2
 left_by (children.AsksWhole flow) = going_left + 1
 left_by (children.GoesOn stream) = sequence_left stream.value
 left_by children.Over = 0
+
+-- nothing is awaited, and neither of its directions keeps a body
+abbrev pub keeps_no_body : Child → Bool
+keeps_no_body (children.GoesOn stream) = streams.keeps_no_body stream.value.phase
+keeps_no_body child = false
 
 -- the flow and what was recorded do not count
 abbrev pub kept_by : Child → ℕ

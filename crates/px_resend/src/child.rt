@@ -1,6 +1,12 @@
 //! Where a request that is sent again stands.
-ghost use Rattle.std.specs.Prelude.{◌≡◌, ◌^◌, ◌-◌, min};
-ghost use Rattle.px_resend.specs.Kept.{awaited_by, is_over, kept_by};
+ghost use Rattle.std.specs.Prelude.{◌≡◌, ◌^◌, ◌-◌, ◌≤◌, List, min, true};
+ghost use Rattle.px_event.specs.Chain.{Timed};
+ghost use Rattle.px_event.specs.declared.event.Event.{Event as Heard};
+ghost use Rattle.px_exchange.specs.declared.terms.Terms.{Terms};
+ghost use Rattle.px_message.specs.declared.request.Request.{Request};
+ghost use Rattle.px_resend.specs.Chain.{Stage};
+ghost use Rattle.px_resend.specs.Kept.{awaited_by, is_over, keeps_no_body, kept_by};
+ghost use Rattle.px_resend.specs.Stands.{IsChild};
 
 use px_event::{Ask, Hook, Layer};
 use px_exchange::Boxed;
@@ -38,7 +44,8 @@ impl Child {
 
     /// How many bytes it keeps, or 2^64 - 1 where that is more.
     pub fn kept(&self) -> usize
-        ensures { result ≡ min (kept_by self.now) (2 ^ 64 - 1) }
+        ensures kept { result ≡ min (kept_by self.now) (2 ^ 64 - 1) }
+        ensures bound { (terms : Terms) (recorded : Request) (stage : Stage) (prefix : List (Timed Heard)) → IsChild terms recorded self.now stage prefix → keeps_no_body self.now ≡ true → kept_by self.now ≤ 133120 }
     {
         match self {
             Child::GoesOn(stream) => stream.kept(),

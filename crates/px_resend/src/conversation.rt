@@ -14,7 +14,7 @@ pub enum Conversation<L> {
 }
 
 impl<L: Numbered> Layer for Conversation<L> {
-    ghost use Rattle.px_resend.specs.Joined.{awaited_by, ended_by, kept_by, left_by, rate_by, stands_by};
+    ghost use Rattle.px_resend.specs.Joined.{awaited_by, ended_by, kept_by, left_by, no_body_by, rate_by, stands_by};
 
     ghost stands = { stands_by L.stands };
 
@@ -25,6 +25,8 @@ impl<L: Numbered> Layer for Conversation<L> {
     ghost rate = { rate_by L.rate };
 
     ghost kept = { kept_by L.kept };
+
+    ghost keeps_no_body = { no_body_by L.keeps_no_body };
 
     ghost ended = { ended_by L.ended };
 

@@ -386,7 +386,7 @@ fn shut_server(used: Used, out: &mut Vec<Command>) -> Result<(), NoMemory>
 
 impl Layer for Resend {
     ghost use Rattle.std.specs.Prelude.{ℕ, List};
-    ghost use Rattle.px_resend.specs.Kept.{is_over, kept_by, left_by};
+    ghost use Rattle.px_resend.specs.Kept.{is_over, keeps_no_body, kept_by, left_by};
     ghost use Rattle.px_resend.specs.Stands.{ResendStands, awaits};
 
     ghost stands = { ResendStands };
@@ -398,6 +398,8 @@ impl Layer for Resend {
     ghost rate = { λ state. 0 };
 
     ghost kept = { λ state. kept_by state.child };
+
+    ghost keeps_no_body = { λ state. keeps_no_body state.child };
 
     ghost ended = { λ state. is_over state.child };
 

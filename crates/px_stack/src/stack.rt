@@ -1,14 +1,13 @@
 //! A conversation: HTTP, until a CONNECT or a response of code 101 hands over, and what follows.
-ghost use Rattle.std.specs.Prelude.{◌≡◌, ◌≤◌, ◌<◌, ◌+◌, ◌-◌, ◌^◌, ◌++◌, ℕ, Bool, List, [], Option, Some, None, IfOk, OnOk, false, min, true};
+ghost use Rattle.std.specs.Prelude.{◌≡◌, ◌≤◌, ◌<◌, ◌+◌, ◌++◌, ℕ, Bool, List, [], Option, Some, None, IfOk, OnOk, false};
 ghost use Rattle.rand_chacha.specs.ChaCha.{key_of};
-ghost use Rattle.px_event.specs.Layer.{AsksOnly, MayAnswer, Move};
-ghost use Rattle.px_event.specs.declared.command.Command.{Command as GivenCommand};
+ghost use Rattle.px_event.specs.Layer.{AsksOnly, MayAnswer};
 ghost use Rattle.px_chain.specs.Chain.{parked_of};
 ghost use Rattle.px_exchange.specs.Places.{place_of, terms_of};
 ghost use Rattle.px_exchange.specs.declared.ending.Used.TheVariants.{ByServer, NoServer};
 ghost use Rattle.px_http.specs.Stands.{HttpStands, awaits as http_awaits};
 ghost use Rattle.px_stack.specs.Chain.{begins, unless_closed};
-ghost use Rattle.px_stack.specs.Kept.{awaited_by, goal_left, http_keeps_no_body, kept_by, left_by, opened_left};
+ghost use Rattle.px_stack.specs.Kept.{awaited_by, goal_left, left_by, opened_left};
 ghost use Rattle.px_stack.specs.Stack.{StackStands, awaits, start_of, visitor_of};
 ghost use Rattle.px_stack.specs.Stands.{IsSomewhere};
 ghost use Rattle.px_stack.specs.Steps.{Adds, AsksFor, CanGoOn, CanReach, Decides, EndsRefused, GoesInside, IsFewDials, IsGoalSomewhere, IsPlain, Leads, LetsThrough, Relays, ResumesChild, TakesChild, Tells, TurnsAway};
@@ -704,7 +703,7 @@ fn copy_address(address: &Option<Address>) -> Result<Option<Address>, NoMemory>
 
 impl Layer for Stack {
     ghost use Rattle.std.specs.Prelude.{ℕ, List};
-    ghost use Rattle.px_stack.specs.Kept.{is_over, kept_by, left_by};
+    ghost use Rattle.px_stack.specs.Kept.{http_keeps_no_body, is_over, kept_by, left_by};
     ghost use Rattle.px_stack.specs.Stack.{StackStands, awaits};
 
     ghost stands = { StackStands };
@@ -716,6 +715,8 @@ impl Layer for Stack {
     ghost rate = { λ state. 0 };
 
     ghost kept = { λ state. kept_by state.child };
+
+    ghost keeps_no_body = { λ state. http_keeps_no_body state.child };
 
     ghost ended = { λ state. is_over state.child };
 
@@ -742,10 +743,7 @@ impl Layer for Stack {
         self.child.waiting()
     }
 
-    fn kept(&self) -> usize
-        ensures kept { result ≡ min (kept_by self.now.child) (2 ^ 64 - 1) }
-        ensures bound { (made : Stack) (moves : List Move) (given : List GivenCommand) → StackStands made self.now moves given → http_keeps_no_body self.now.child ≡ true → kept_by self.now.child ≤ 133120 }
-    {
+    fn kept(&self) -> usize {
         self.child.kept()
     }
 

@@ -207,7 +207,7 @@ fn echo(reply: &Reply, line: Bytes, out: &mut Vec<Command>) -> Result<(), NoMemo
 }
 
 impl Layer for LineEcho {
-    ghost use Rattle.std.specs.Prelude.{ℕ, List, length};
+    ghost use Rattle.std.specs.Prelude.{ℕ, List, false, length};
     ghost use Rattle.px_toy.specs.Echo.{ask_about};
     ghost use Rattle.px_toy.specs.Stands.{EchoStands, awaits, is_over};
 
@@ -220,6 +220,8 @@ impl Layer for LineEcho {
     ghost rate = { λ echo. 1 };
 
     ghost kept = { λ echo. length echo.unread.items };
+
+    ghost keeps_no_body = { λ echo. false };
 
     ghost ended = { λ echo. is_over echo.phase };
 

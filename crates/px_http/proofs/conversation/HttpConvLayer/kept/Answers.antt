@@ -4,4 +4,4 @@ pub returns-clause-there : goal.returns-clause-there
 returns-clause-there c = c.kept.ensures.bound
 
 pub returns-clause-bound : goal.returns-clause-bound
-returns-clause-bound c = λ made moves given stands. c.kept.ensures.bound made.stream.terms _ _ stands.place.is_at
+returns-clause-bound c = λ sound keeps. (c.kept.ensures.bound sound.0.stream.terms _ _ sound.3.place.is_at keeps).all
