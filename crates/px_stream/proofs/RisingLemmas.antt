@@ -1,5 +1,5 @@
 -- Behind what was sent on of a request the stream may pass, and look.
-use Rattle.std.proofs.Common.{◌≡◌, ◌<◌, ℕ, Bool, true, false, List, [], ◌++◌, length, Option, Some, None, refl, ap, sym, ◌∙◌, subst}
+use Rattle.std.proofs.Common.{◌≡◌, ◌<◌, ℕ, Bool, true, false, ◌||◌, List, [], ◌++◌, length, Option, Some, None, refl, ap, sym, ◌∙◌, subst}
 use Rattle.px_message.specs.declared.flow.Flow.{Flow}
 use Rattle.px_message.specs.declared.request.Request.{Request}
 use Rattle.px_message.specs.declared.response.Response.{Response}
@@ -21,13 +21,13 @@ use Rattle.px_stream.specs.declared.phase.Wanted.{Wanted}
 use Rattle.px_stream.specs.declared.phase.Wanted.TheVariants as ready
 use Rattle.px_stream.specs.declared.stream.Stream.{Stream}
 use Rattle.px_stream.specs.Comings.{CollectsHeld}
-use Rattle.px_stream.specs.GoingUp.{GoesUp, GoesUpOnce, HeldUpWent, LedUp, MayGoUp, MayTakeSide, ParkedOpen, RaisedBy, begins_with, up_flow}
+use Rattle.px_stream.specs.GoingUp.{GoesUp, GoesUpOnce, HeldUpWent, LedUp, MayGoUp, MayTakeSide, ParkedOpen, RaisedBy, begins_with, is_rising, up_flow}
 use Rattle.px_stream.specs.Goings.{goes_up_with}
 use Rattle.px_stream.specs.Looks.{MayLook}
-use Rattle.px_stream.specs.Passes.{MayPass, MayRead, is_passing}
+use Rattle.px_stream.specs.Passes.{Advances, MayPass, MayRead, PassedBy, is_passing}
 use Rattle.px_stream.specs.Responses.{IsKept}
 use Rattle.px_stream.specs.Stands.{IsOpen, IsSome}
-use Rattle.px_stream.specs.Turns.{opened_side}
+use Rattle.px_stream.specs.Turns.{LooksOnce, opened_side}
 use Rattle.px_stream.proofs.UnreadLemmas.{unread_reads}
 
 -- it may pass, and look where nothing is passed
@@ -148,3 +148,71 @@ pub may_go_on : (before after : Stream) (moment : ℕ) (looked next : Wanted) (o
     (is_passing looked ≡ false → MayLook looked before.requests before.side) → GoesUpOnce before after moment looked next out longer → MayGoOn after.at next after.requests after.side
 may_go_on before after moment looked next out longer reads takes passes looks once =
     goes_on before.terms.place before.at after.at moment next before.requests after.requests before.side after.side out longer looked reads takes passes looks once.goes
+
+-- ---- where nothing is sent on of a request or a response it only looks
+
+up_none : (place : Place) (at : At) (moment : ℕ) (looked : Wanted) (requests : State) (side : Option Link) (out : List Command) → is_rising looked ≡ false →
+    GoesUp place at at moment looked looked requests requests side side out out
+up_none place at moment (ready.RequestBody flow given most body (Some held)) requests side out is = absurd (let no : true ≡ false = is in cc)
+up_none place at moment (ready.RequestBody flow given most body None) requests side out is = (record { same = refl; is_there = refl; same_side = refl; gives = refl }, refl)
+up_none place at moment (ready.ResponseHead flow server (sending.GoingUp sent)) requests side out is = absurd (let no : true ≡ false = is in cc)
+up_none place at moment (ready.ResponseHead flow server sending.All) requests side out is = record {
+  told = flow;
+  goes = sending.All;
+  raised = record { is_told = refl; is_next = refl; same = refl; gives = refl };
+  is_there = refl;
+  same = refl;
+  same_side = refl;
+}
+up_none place at moment (ready.ResponseBody flow server (sending.GoingUp sent) most body held) requests side out is = absurd (let no : true ≡ false = is in cc)
+up_none place at moment (ready.ResponseBody flow server sending.All most body held) requests side out is = record {
+  told = flow;
+  goes = sending.All;
+  raised = record { is_told = refl; is_next = refl; same = refl; gives = refl };
+  is_there = refl;
+  same = refl;
+  same_side = refl;
+}
+up_none place at moment (ready.ComingDown flow server (sending.GoingUp sent) its) requests side out is = absurd (let no : true ≡ false = is in cc)
+up_none place at moment (ready.ComingDown flow server sending.All its) requests side out is = record {
+  told = flow;
+  goes = sending.All;
+  raised = record { is_told = refl; is_next = refl; same = refl; gives = refl };
+  is_there = refl;
+  same = refl;
+  same_side = refl;
+}
+up_none place at moment ready.Idle requests side out is = (record { same = refl; is_there = refl; same_side = refl; gives = refl }, refl)
+up_none place at moment (ready.Connection flow up) requests side out is = (record { same = refl; is_there = refl; same_side = refl; gives = refl }, refl)
+up_none place at moment (ready.Upgraded flow server) requests side out is = (record { same = refl; is_there = refl; same_side = refl; gives = refl }, refl)
+up_none place at moment (ready.GivenHead flow) requests side out is = (record { same = refl; is_there = refl; same_side = refl; gives = refl }, refl)
+up_none place at moment (ready.GivenBody flow) requests side out is = (record { same = refl; is_there = refl; same_side = refl; gives = refl }, refl)
+up_none place at moment (ready.Connects address) requests side out is = (record { same = refl; is_there = refl; same_side = refl; gives = refl }, refl)
+up_none place at moment ready.Over requests side out is = (record { same = refl; is_there = refl; same_side = refl; gives = refl }, refl)
+
+first_none : (a b : Bool) → (a || b) ≡ false → a ≡ false
+first_none false b is = refl
+first_none true b is = is
+
+pub second_none : (a b : Bool) → (a || b) ≡ false → b ≡ false
+second_none false b is = is
+second_none true b is = absurd (let no : true ≡ false = is in cc)
+
+pub looks_alone : (before after : Stream) (moment : ℕ) (looked : Wanted) (out longer : List Command) → (is_rising looked || is_passing looked) ≡ false → LooksOnce before after moment looked out longer →
+    Advances before after moment looked out longer
+looks_alone before after moment looked out longer none looks = record {
+  risen = before;
+  gone = looked;
+  raised = out;
+  rises = record { terms = refl; client = refl; goes = up_none before.terms.place before.at moment looked before.requests before.side out (first_none (is_rising looked) (is_passing looked) none) };
+  between = before;
+  next = looked;
+  given = out;
+  passes = record {
+    terms = refl;
+    client = refl;
+    middle = before.side;
+    passes = subst (λ b. PassedBy b before before moment looked looked before.side out out) (sym (second_none (is_rising looked) (is_passing looked) none)) (record { same = refl; is_there = refl; gives = refl }, refl, refl);
+  };
+  looks = looks;
+}

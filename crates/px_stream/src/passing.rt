@@ -1,8 +1,9 @@
 //! Where a flow goes on without an answer: a response's body is read as far as it has come; where it is streamed, what came is sent, and
 //! where that is all of it, the flow is finished. Before that, what came of a request that is streamed is sent on (`request`).
-ghost use Rattle.std.specs.Prelude.{◌≡◌, ◌<◌, ◌++◌, length, IfOk, OnOk};
+ghost use Rattle.std.specs.Prelude.{◌≡◌, ◌<◌, ◌++◌, ◌||◌, length, IfOk, OnOk};
 ghost use Rattle.px_exchange.specs.Bodies.{IsReading};
 ghost use Rattle.px_stream.specs.Comings.{sends_text};
+ghost use Rattle.px_stream.specs.GoingUp.{is_rising};
 ghost use Rattle.px_stream.specs.Passes.{DownPassed, HeldPassed, HoldsMore, MayPass, Passed, SaysMore, StartedDown, WentDown, ended_gives, ended_leads, is_passing, streams_by};
 ghost use Rattle.px_stream.specs.Stands.{IsOpen, IsSome, StaysOpen, stage_of};
 
@@ -25,6 +26,7 @@ use px_message::{Flow, Response, Shared};
 use px_parts::write_end;
 use px_text::{Bytes, NoMemory};
 use px_write::write_response_head;
+use request::is_rising;
 use std::alloc::Global;
 
 mod request;
@@ -325,6 +327,13 @@ fn end_whole(
     )?;
     at.parked = None;
     Ok(count_flow(at, stays))
+}
+
+/// Whether anything may be sent on of a request or of a response, where this is looked for.
+pub fn sends_on(ready: &Wanted) -> bool
+    ensures { result ≡ (is_rising ready.now || is_passing ready.now) }
+{
+    is_rising(ready) || is_passing(ready)
 }
 
 /// Whether it is a body that may be streamed, or is.

@@ -32,7 +32,7 @@ use crate::hearing::hear;
 use crate::leaving::{enter, take_asked, take_looked};
 use crate::link::{self, Link};
 use crate::looking::look;
-use crate::passing::{is_passing, pass, pass_request};
+use crate::passing::{is_passing, pass, pass_request, sends_on};
 use crate::phase::{Asked, Phase, Wanted};
 use crate::sizes::{content_len, held_len, side_size, uses_side};
 use crate::turning::turn;
@@ -309,6 +309,25 @@ impl Stream {
 
     // Goes on without an answer, and looks.
     fn advance(
+        &mut self,
+        moment: u64,
+        ready: Wanted,
+        out: &mut Vec<Command>,
+    ) -> Result<(), NoMemory>
+        requires goes_up { MayGoUp ready self.old.requests }
+        requires takes { MayTakeSide self.old.at ready self.old.side }
+        requires passes { MayPass self.old.at ready self.old.side }
+        requires looks { is_passing ready ≡ false → MayLook ready self.old.requests self.old.side }
+        ensures { OnOk result (Advances self.old self.new moment ready out.old.items out.new.items) }
+    {
+        if sends_on(&ready) {
+            return self.send_on(moment, ready, out);
+        }
+        self.look(moment, ready, out)
+    }
+
+    // Sends on what came of a request and of a response, and looks.
+    fn send_on(
         &mut self,
         moment: u64,
         ready: Wanted,

@@ -10,7 +10,7 @@ ghost use Rattle.px_write.specs.Text.{request_head_text};
 ghost use Rattle.px_chain.specs.Chain.{parked_for};
 ghost use Rattle.px_stream.specs.Comings.{GoesOverHeld};
 ghost use Rattle.px_stream.specs.Goings.{framed_up_by, goes_up_with};
-ghost use Rattle.px_stream.specs.GoingUp.{GoesUp, HeldUpPassed, LedUp, MayGoUp, MayReadUp, RaisedBy, RaisedTo, ReadUp, StartedUp, TakesSide, WentUp, begins_with, unheard_side};
+ghost use Rattle.px_stream.specs.GoingUp.{GoesUp, HeldUpPassed, LedUp, MayGoUp, MayReadUp, RaisedBy, RaisedTo, ReadUp, StartedUp, TakesSide, WentUp, begins_with, is_rising, is_rising_by, unheard_side};
 ghost use Rattle.px_stream.specs.Turns.{opened_side};
 
 use crate::at::At;
@@ -91,6 +91,29 @@ pub fn pass_request(
             sent,
         } => raise_down(now, requests, flow, server, up, sent, out),
         other => Ok(other),
+    }
+}
+
+/// Whether it is a body that may be streamed, or a request that goes up.
+pub fn is_rising(ready: &Wanted) -> bool
+    ensures { result ≡ is_rising ready.now }
+{
+    match ready {
+        Wanted::RequestBody { held, .. } => held.is_some(),
+        Wanted::ResponseHead { up, .. } => goes_on(up),
+        Wanted::ResponseBody { up, .. } => goes_on(up),
+        Wanted::ComingDown { up, .. } => goes_on(up),
+        _ => false,
+    }
+}
+
+// Whether a request goes up still.
+fn goes_on(up: &Sending) -> bool
+    ensures { result ≡ is_rising_by up.now }
+{
+    match up {
+        Sending::All => false,
+        Sending::GoingUp(_) => true,
     }
 }
 
