@@ -59,6 +59,7 @@ module _ {S : Type 0} (answers : Answering S) (drops : List ℕ → S → S → 
   operated_so (operations.DropAddon name) course trace old new moved all = are_more (SavesOrDrops drops) course.changes (change trace old new) all (is_drop name moved.0 moved.1)
   operated_so (operations.Resume id) course trace old new moved all = all
   operated_so (operations.Kill id) course trace old new moved all = all
+  operated_so (operations.Edit id edit) course trace old new moved all = all
   operated_so (operations.Mark id) course trace old new moved all = all
 
   order_so : (one : Order) (at next : Point S) (caused : List Step) (given : List ℕ) → Obeys answers drops names due one at caused given next → AreSavesOrDrops drops at.course →

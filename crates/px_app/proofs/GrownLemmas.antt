@@ -7,7 +7,7 @@ use Rattle.px_event.specs.declared.ask.Hook.{Hook}
 use Rattle.px_event.specs.Trace.{Trace}
 use Rattle.px_outside.specs.Files.{Appends, AppendsPart, Contents, SameContents, Told}
 use Rattle.px_core.specs.declared.answerer.Answer.{Answer}
-use Rattle.px_core.specs.Answered.{Answers, LeavesFiles, Pending, at_change, at_first, at_hook, at_mark, at_other, at_release, at_reply}
+use Rattle.px_core.specs.Answered.{Answers, LeavesFiles, Pending, at_change, at_edit, at_first, at_hook, at_mark, at_other, at_release, at_reply}
 use Rattle.px_core.specs.Answers.{Answering, AnswererState, Failing, FilesMeaning}
 use Rattle.px_core.specs.Course.{AllAre, Change, Course, KeepsOwn, Operated, change}
 use Rattle.px_core.specs.Due.{Due}
@@ -327,7 +327,14 @@ module _ {S : Type 0} (answers : Answering S) (fails : Failing S) (is : S → Ty
       let M : AnswererState S → Type 0 = λ first. GrownOver first last made in
       let same = ap (λ c. c.first) split in
       subst M (sym same) (grown_over due prefix reached placed made (subst P same so) (subst Q (ap (λ c. c.changes) split) own) (subst R (ap (λ c. c.changes) split) saved) whole last pending before)
-  grown_over due course reached placed made so own saved whole last pending (at_release prefix more trace next now was operation id hook draft before split_course for waits split) =
+  grown_over due course reached placed made so own saved whole last pending (at_edit prefix next trace now was id edit hook draft edits edited before split waits changed) =
+      let P : AnswererState S → Type 0 = λ state. is state.own in
+      let Q : List (Change S) → Type 0 = AllAre (KeepsOwn is) in
+      let R : List (Change S) → Type 0 = λ l. SavedOver (Some to) reached l placed made in
+      let M : AnswererState S → Type 0 = λ first. GrownOver first last made in
+      let same = ap (λ c. c.first) split in
+      subst M (sym same) (grown_over due prefix reached placed made (subst P same so) (subst Q (ap (λ c. c.changes) split) own) (subst R (ap (λ c. c.changes) split) saved) whole last was before)
+  grown_over due course reached placed made so own saved whole last pending (at_release prefix more trace next now was operation id hook draft edited before split_course for waits split) =
       let P : AnswererState S → Type 0 = λ state. is state.own in
       let Q : List (Change S) → Type 0 = AllAre (KeepsOwn is) in
       let R : List (Change S) → Type 0 = λ l. SavedOver (Some to) reached l placed made in

@@ -17,7 +17,7 @@ use Rattle.px_event.specs.View.{View, seen_of}
 use Rattle.px_outside.specs.declared.net.NetError.{NetError}
 use Rattle.px_outside.specs.declared.net.NetError.TheVariants as net
 use Rattle.px_core.specs.declared.router.Router.{Router}
-use Rattle.px_core.specs.Answered.{Answers, IsAnswered, LeavesFiles, Pending, RestsBy, nothing_pending, at_change, at_first, at_hook, at_mark, at_other, at_release, at_reply}
+use Rattle.px_core.specs.Answered.{Answers, IsAnswered, LeavesFiles, Pending, RestsBy, nothing_pending, at_change, at_edit, at_first, at_hook, at_mark, at_other, at_release, at_reply}
 use Rattle.px_core.specs.Answers.{Answering, AnswererState, Failing, FilesMeaning}
 use Rattle.px_core.specs.Course.{Change, Course, IsFrontOf, Operated, begins_at, change, with_change}
 use Rattle.px_core.specs.Due.{Due, due_in, IsServed, IsAllTold, IsWithinDue, EndsMet, OpenOnesWait}
@@ -537,7 +537,9 @@ answers_none answers due course now pending whole (at_change made next trace old
     absurd (no_change made.changes (change whole old now) (sym still ∙ ap (λ c. c.changes) split))
 answers_none answers due course now pending whole (at_mark made next trace state was id before split) none still =
     answers_none answers due made now pending whole before none (sym (ap (λ c. c.changes) split) ∙ still) ∙ sym (ap (λ c. c.first) split)
-answers_none answers due course now pending whole (at_release made more trace next state was operation id hook draft before split_course for waits split) none still =
+answers_none answers due course now pending whole (at_edit made next trace state was id edit hook draft edits edited before split waits changed) none still =
+    answers_none answers due made now was whole before none (sym (ap (λ c. c.changes) split) ∙ still) ∙ sym (ap (λ c. c.first) split)
+answers_none answers due course now pending whole (at_release made more trace next state was operation id hook draft edited before split_course for waits split) none still =
     absurd (no_step trace _ (sym none ∙ split))
 
 pub state_first : {C : Type 0} (standing : Standing C) (awaited : C → Option Ask) (number : C → ℕ) (made_due : C → List Move → List Command) {S : Type 0} (answers : Answering S)

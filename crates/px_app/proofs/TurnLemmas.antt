@@ -200,6 +200,7 @@ module _ {S : Type 0} (drops : List ℕ → S → S → Type 0) where
   grows_operated answers (operations.DropAddon name) course turned trace old new (dropped, files) is = grows_change course turned trace name old new dropped files is
   grows_operated answers (operations.Resume id) course turned trace old new moves is = grows_by course turned trace (operations.Resume id) is
   grows_operated answers (operations.Kill id) course turned trace old new moves is = grows_by course turned trace (operations.Kill id) is
+  grows_operated answers (operations.Edit id edit) course turned trace old new moves is = grows_by course turned trace (operations.Edit id edit) is
   grows_operated answers (operations.Mark id) course turned trace old new moves is = grows_by course turned trace (operations.Mark id) is
 
 -- ---- lines of an operator

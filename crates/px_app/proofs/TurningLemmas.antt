@@ -198,6 +198,7 @@ module _ {S : Type 0} (answers : Answering S) (drops : List ℕ → S → S → 
   goes_moved : (first old new : AnswererState S) (operation : Operation) → Goes answers drops to first old → MovesBy answers drops operation old new → Goes answers drops to first new
   goes_moved first old new (operations.Resume id) before moves = goes_more answers drops to first old new before moves
   goes_moved first old new (operations.Kill id) before moves = goes_more answers drops to first old new before moves
+  goes_moved first old new (operations.Edit id edit) before moves = goes_more answers drops to first old new before moves
   goes_moved first old new (operations.Mark id) before moves = goes_more answers drops to first old new before moves
   goes_moved first old new (operations.DropAddon name) before (dropped, files) = goes_drop old new name before dropped files
 

@@ -4,7 +4,7 @@ use Rattle.px_message.specs.declared.flow.Flow.{Flow}
 use Rattle.px_event.specs.declared.ask.Hook.{Hook}
 use Rattle.px_event.specs.Trace.{Trace}
 use Rattle.px_core.specs.declared.answerer.Answer.{Answer}
-use Rattle.px_core.specs.Answered.{Answers, LeavesFiles, Pending, at_change, at_first, at_hook, at_mark, at_other, at_release, at_reply}
+use Rattle.px_core.specs.Answered.{Answers, LeavesFiles, Pending, at_change, at_edit, at_first, at_hook, at_mark, at_other, at_release, at_reply}
 use Rattle.px_core.specs.Answers.{Answering, AnswererState, ByAnswers, Failing, FilesAfter, FilesMeaning, after_answers, after_failure, by_answer, by_none}
 use Rattle.px_core.specs.Course.{AllAre, Change, Course, KeepsOwn, MovesFiles, change}
 use Rattle.px_core.specs.Due.{Due}
@@ -96,7 +96,10 @@ module _ {S : Type 0} (answers : Answering S) (fails : Failing S) (is : S → Ty
   kept_over due course so own moved whole last pending (at_mark made next trace now was id before split) =
       kept_operated due course made so own moved whole last pending (ap (λ c. c.first) split) (ap (λ c. c.changes) split)
       (λ begins owns moves. kept_over due made begins owns moves whole last pending before)
-  kept_over due course so own moved whole last pending (at_release made c trace next now was operation id hook draft before split for waits grown) =
+  kept_over due course so own moved whole last pending (at_edit made next trace now was id edit hook draft edits edited before split waits changes) =
+      kept_operated due course made so own moved whole last was (ap (λ c. c.first) split) (ap (λ c. c.changes) split)
+      (λ begins owns moves. kept_over due made begins owns moves whole last was before)
+  kept_over due course so own moved whole last pending (at_release made c trace next now was operation id hook draft edited before split for waits grown) =
       kept_operated due course made so own moved trace last was (ap (λ c. c.first) split) (ap (λ c. c.changes) split)
       (λ begins owns moves. kept_over due made begins owns moves trace last was before)
 

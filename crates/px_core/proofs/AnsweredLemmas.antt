@@ -1,5 +1,5 @@
 -- The answerer over a trace, some steps further.
-use Rattle.std.proofs.Common.{◌≡◌, ◌≢◌, inl, inr, ℕ, Bool, false, ◌==◌, ◌&&◌, ◌||◌, List, [], ◌∷◌, ◌++◌, map, Option, Some, None, refl, ap, sym, ◌∙◌, subst, append_assoc}
+use Rattle.std.proofs.Common.{◌≡◌, ◌≢◌, inl, inr, ℕ, Bool, false, ◌==◌, ◌&&◌, ◌||◌, List, [], ◌∷◌, ◌++◌, map, Option, Some, None, refl, ap, sym, ◌∙◌, subst, append_assoc, Ok}
 use Rattle.std.proofs.lemmas.List.{append-nil}
 use Rattle.std.specs.List.{list_any}
 use Rattle.std.specs.Prelude.{if◌then◌else◌}
@@ -21,13 +21,14 @@ use Rattle.px_event.proofs.TraceLemmas.{front_of_more, IsFrontOfMore}
 use Rattle.px_core.specs.declared.answerer.Answer.{Answer}
 use Rattle.px_core.specs.declared.answerer.Answer.TheVariants as answer
 use Rattle.px_core.specs.declared.answerer.Draft.{Draft}
+use Rattle.px_core.specs.declared.waiting.Waiting.{Waiting}
 use Rattle.px_core.specs.declared.held.Question.{Question}
-use Rattle.px_core.specs.Answered.{GivenTo, Pending, with_given, with_shown, with_pending, with_asked, shown_behind, IsMarkedBy, IsNoAnswer, Answers, at_first, at_hook, at_reply, at_other, at_change, at_mark, at_release, IsAnswered}
+use Rattle.px_core.specs.Answered.{GivenTo, Pending, with_given, with_shown, with_pending, with_asked, shown_behind, IsMarkedBy, IsNoAnswer, Answers, at_first, at_hook, at_reply, at_other, at_change, at_mark, at_edit, at_release, just_given, IsAnswered}
 use Rattle.px_core.specs.Answers.{Answering, AnswererState}
 use Rattle.px_core.specs.Course.{Change, Course, IsFrontOf, Operated, change, operated, is_mark_of, is_marked, with_operation}
 use Rattle.px_core.specs.Calls.{calls}
 use Rattle.px_core.specs.Conversation.{AllNamed, IsNamed}
-use Rattle.px_core.specs.Drafts.{ComesTo, answers_for, released_by}
+use Rattle.px_core.specs.Drafts.{ComesTo, answers_for, edited_at, edited_by, released_by, reply_of, with_edits}
 use Rattle.px_core.specs.declared.operation.Operation.{Operation}
 use Rattle.px_core.specs.declared.operation.Operation.TheVariants as operations
 use Rattle.px_core.specs.Due.{Due, due_by, due_in, IsAskedLast}
@@ -36,6 +37,9 @@ use Rattle.px_core.specs.Hooks.{hook_on, open_hook, AsksInTurn}
 use Rattle.px_core.proofs.CallLemmas.{calls_more, same_number, told_calls, told_own}
 use Rattle.px_core.proofs.HookLemmas.{asked_same, hook_more, hook_asked, hook_answered, turn_on}
 use Rattle.px_core.proofs.UnmarkedLemmas.{AllMarkedOn}
+use Rattle.px_draft.specs.declared.edit.Edit.{Edit}
+use Rattle.px_draft.specs.declared.edited.Edited.{Edited}
+use Rattle.px_draft.specs.Edits.{behind, changed, changed_by, flow_of, fresh, kept}
 
 pub pending_here : (conv : ℕ) (given : Option GivenTo) (before : ℕ → Option GivenTo) → with_given conv given before conv ≡ given
 pending_here conv given before = rw (same_number conv) refl
@@ -172,9 +176,11 @@ module _ {S : Type 0} (answers : Answering S) (due : Due) where
       later_course course made prefix first (front_answered made prefix rest whole old pending split before)
   front_answered course prefix rest whole now pending split (at_mark made next trace state was id before is) =
       later_course course made prefix (operated_front course made whole (operations.Mark id) is) (front_answered made prefix rest whole now pending split before)
-  front_answered course prefix rest whole now pending split (at_release made c trace next state was operation id hook draft before is for waits grown) =
-      less course prefix rest whole trace (steps.Answered id.conv (asks.Hook id.index hook) (released_by operation draft))
-      (answered_whole course whole now pending (at_release made course trace whole now was operation id hook draft before is for waits grown)) grown split
+  front_answered course prefix rest whole now pending split (at_edit made next trace state was id change hook draft edits edited before is waits changes) =
+      later_course course made prefix (operated_front course made whole (operations.Edit id change) is) (front_answered made prefix rest whole now was split before)
+  front_answered course prefix rest whole now pending split (at_release made c trace next state was operation id hook draft edited before is for waits grown) =
+      less course prefix rest whole trace (steps.Answered id.conv (asks.Hook id.index hook) (released_by operation (with_edits edited draft)))
+      (answered_whole course whole now pending (at_release made course trace whole now was operation id hook draft edited before is for waits grown)) grown split
       (λ most e. later_course course made prefix (operated_front course made trace operation is) (front_answered made prefix most trace now was e before))
 
   pub answered_front : (course : Course S) (prefix rest whole : Trace) → whole ≡ prefix ++ rest → IsAnswered answers due course whole → IsAnswered answers due course prefix
@@ -295,7 +301,7 @@ module _ {S : Type 0} (answers : Answering S) (due : Due) (course : Course S) wh
 
   module _ (pending : Pending) (conv : ℕ) where
     -- a step that asks nothing and answers nothing
-    pub follows_step : (draft : Option Draft) (marks : ℕ → Bool) (shown : ℕ → ℕ → Option Flow) (now : AnswererState S) (trace : Trace) (step : Step) →
+    pub follows_step : (draft : Option Waiting) (marks : ℕ → Bool) (shown : ℕ → ℕ → Option Flow) (now : AnswererState S) (trace : Trace) (step : Step) →
         Follows answers due course pending conv (record { draft = draft; marks = marks; shown = shown conv }) now trace → IsNoAnswer step → IsMarkedBy course.operations step → FinishesOwn conv step →
         Follows answers due course pending conv (record { draft = draft; marks = marks; shown = shown_behind step shown conv }) now (trace ++ step ∷ [])
     follows_step draft marks shown now trace step f quiet marked own = record {
@@ -322,7 +328,7 @@ module _ {S : Type 0} (answers : Answering S) (due : Due) (course : Course S) wh
     }
 
     -- the commands of a call are told
-    pub follows_told : (draft : Option Draft) (marks : ℕ → Bool) (shown : ℕ → ℕ → Option Flow) (now : AnswererState S) (given : List Command) (question : Option Question) (trace : Trace)
+    pub follows_told : (draft : Option Waiting) (marks : ℕ → Bool) (shown : ℕ → ℕ → Option Flow) (now : AnswererState S) (given : List Command) (question : Option Question) (trace : Trace)
         (last : Option Ask) → AllNamed conv given → AllMarkedOn marks given → AsksInTurn (open_hook conv trace) given last → question ≡ asked_from None given → IsAbout due conv trace question →
         Follows answers due course pending conv (record { draft = draft; marks = marks; shown = shown conv }) now trace →
         FollowsTo answers due course pending conv (record { draft = draft; marks = marks; shown = shown_told given shown conv }) now (trace ++ map (step_of conv) given) question
@@ -389,7 +395,7 @@ module _ {S : Type 0} (answers : Answering S) (due : Due) (course : Course S) wh
 
     -- the answerer is asked, and gives this
     abbrev over_asked : {kept : Kept} {was : AnswererState S} {trace : Trace} (question : Question) (given : Answer) → IsToAsk answers due course pending conv kept was trace question → Pending
-    over_asked question given t = pending_over t.behind (with_asked conv (record { ask = question.ask; answer = given }) question.flow t.follows.pending)
+    over_asked question given t = pending_over t.behind (with_asked conv (just_given question.ask given) question.flow t.follows.pending)
 
     asked_on : (kept : Kept) (old new : AnswererState S) (trace : Trace) (question : Question) (given : Answer) → question.ask ≡ asks.Hook question.flow.id.index question.hook →
         answers question.hook question.flow old.own old.files new.own new.files given → (t : IsToAsk answers due course pending conv kept old trace question) →
@@ -397,7 +403,7 @@ module _ {S : Type 0} (answers : Answering S) (due : Due) (course : Course S) wh
     asked_on kept old new trace question given named so t =
         let ask : Ask = asks.Hook question.flow.id.index question.hook in
         let prefix = t.prefix in
-        let over : Ask → Pending = λ a. with_asked conv (record { ask = a; answer = given }) question.flow t.follows.pending in
+        let over : Ask → Pending = λ a. with_asked conv (just_given a given) question.flow t.follows.pending in
         let P : Ask → Type 0 = λ a. Answers answers due course (prefix ++ steps.Asked conv a ∷ []) new (over a) in
         let Q : Trace → Type 0 = λ l. Answers answers due course l new (over_asked question given t) in
         let R : Ask → Type 0 = λ a. IsAskedLast due prefix conv a question.flow in
@@ -419,17 +425,18 @@ module _ {S : Type 0} (answers : Answering S) (due : Due) (course : Course S) wh
         ∙ (with_other conv question.flow.id.index other index (Some question.flow) t.follows.pending.shown apart ∙ t.follows.shown_others other index apart)
 
     -- a draft, with which the hook waits
-    pub follows_wait : (was : Option Draft) (marks : ℕ → Bool) (shown : ℕ → Option Flow) (draft : Draft) (old new : AnswererState S) (trace : Trace) (question : Question) →
+    pub follows_wait : (was : Option Waiting) (marks : ℕ → Bool) (shown : ℕ → Option Flow) (draft : Draft) (old new : AnswererState S) (trace : Trace) (question : Question) →
         question.ask ≡ asks.Hook question.flow.id.index question.hook → answers question.hook question.flow old.own old.files new.own new.files (answer.Wait draft) →
         IsToAsk answers due course pending conv (record { draft = was; marks = marks; shown = shown }) old trace question →
-        Follows answers due course pending conv (record { draft = Some draft; marks = marks; shown = shown }) new trace
+        Follows answers due course pending conv (record { draft = Some (record { draft = draft; edited = None }); marks = marks; shown = shown }) new trace
     follows_wait was marks shown draft old new trace question named so t =
         let kept : Kept = record { draft = was; marks = marks; shown = shown } in
-        let given : Option GivenTo = Some (record { ask = question.ask; answer = answer.Wait draft }) in
+        let given : Option GivenTo = Some (just_given question.ask (answer.Wait draft)) in
+        let waits : Waiting = record { draft = draft; edited = None } in
         record {
           pending = over_asked question (answer.Wait draft) t;
           answered = asked_on kept old new trace question (answer.Wait draft) named so t;
-          here = pending_here conv given t.follows.pending.given ∙ ap (λ h. waiting h (Some draft)) (sym (open_now kept old trace question t));
+          here = pending_here conv given t.follows.pending.given ∙ ap (λ h. waiting h (Some waits)) (sym (open_now kept old trace question t));
           others = λ other apart. pending_other conv other given t.follows.pending.given apart ∙ t.follows.others other apart;
           marks = t.follows.marks;
           shown = t.shown;
@@ -441,7 +448,7 @@ module _ {S : Type 0} (answers : Answering S) (due : Due) (course : Course S) wh
         answers question.hook question.flow old.own old.files new.own new.files (answer.Reply reply) → IsToAsk answers due course pending conv kept old trace question →
         Follows answers due course pending conv kept new (trace ++ steps.Answered conv question.ask reply ∷ [])
     follows_reply kept reply old new trace question named so t =
-        let given : Option GivenTo = Some (record { ask = question.ask; answer = answer.Reply reply }) in
+        let given : Option GivenTo = Some (just_given question.ask (answer.Reply reply)) in
         let over = over_asked question (answer.Reply reply) t in
         record {
           pending = with_pending conv None over;
@@ -455,12 +462,30 @@ module _ {S : Type 0} (answers : Answering S) (due : Due) (course : Course S) wh
           shown_others = asked_others kept old trace question (answer.Reply reply) t;
         }
 
+-- a draft with what lines made of it
+same_edits : (hook : Hook) (draft : Draft) (edited : Option Edited) → with_edits edited draft ≡ record draft { flow = flow_of (edited_at hook draft edited) }
+same_edits hook draft None = refl
+same_edits hook draft (Some edited) = refl
+
+made_edits : (hook : Hook) (draft : Draft) (edited : Option Edited) (changes : List Edit) → edited_at hook draft edited ≡ changed_by changes (fresh hook draft.flow) →
+    reply_of (with_edits edited draft) ≡ reply_of (edited_by hook changes draft)
+made_edits hook draft edited changes made = ap reply_of (same_edits hook draft edited) ∙ ap (λ e. reply_of (record draft { flow = flow_of e })) made
+
 -- what an operator makes of a draft comes of it
-pub comes_released : (operation : Operation) (draft : Draft) → ComesTo (answer.Wait draft) (released_by operation draft)
-comes_released (operations.Resume id) draft = inl refl
-comes_released (operations.Kill id) draft = inr refl
-comes_released (operations.Mark id) draft = inl refl
-comes_released (operations.DropAddon name) draft = inl refl
+pub comes_released : (operation : Operation) (hook : Hook) (draft : Draft) (edited : Option Edited) (changes : List Edit) → edited_at hook draft edited ≡ changed_by changes (fresh hook draft.flow) →
+    ComesTo hook (answer.Wait draft) (released_by operation (with_edits edited draft))
+comes_released (operations.Resume id) hook draft edited changes made = inl (changes, made_edits hook draft edited changes made)
+comes_released (operations.Kill id) hook draft edited changes made = inr refl
+comes_released (operations.Edit id change) hook draft edited changes made = inl (changes, made_edits hook draft edited changes made)
+comes_released (operations.Mark id) hook draft edited changes made = inl (changes, made_edits hook draft edited changes made)
+comes_released (operations.DropAddon name) hook draft edited changes made = inl (changes, made_edits hook draft edited changes made)
+
+-- one change more
+pub changed_more : (changes : List Edit) (change : Edit) (first at next : Edited) → at ≡ changed_by changes first → changed change at ≡ Ok next → next ≡ changed_by (changes ++ change ∷ []) first
+changed_more [] change first at next is so =
+    let P : Edited → Type 0 = λ e. changed change e ≡ Ok next in
+    sym (ap (kept first) (subst P is so))
+changed_more (one ∷ changes) change first at next is so = changed_more changes change (behind first one) at next is so
 
 -- an operation that is no mark makes none
 pub any_more : (test : Operated → Bool) (made : List Operated) (last : Operated) → test last ≡ false → list_any test (made ++ last ∷ []) ≡ list_any test made
@@ -470,6 +495,7 @@ any_more test (first ∷ made) last none = ap (λ t. test first || t) (any_more 
 no_mark : (operation : Operation) (id : FlowId) (conv index : ℕ) → answers_for operation ≡ Some id → is_mark_of conv index operation ≡ false
 no_mark (operations.Resume other) id conv index is = refl
 no_mark (operations.Kill other) id conv index is = refl
+no_mark (operations.Edit other change) id conv index is = refl
 no_mark (operations.Mark other) id conv index is = absurd (let no : None ≡ Some id = is in cc)
 no_mark (operations.DropAddon name) id conv index is = refl
 
@@ -479,22 +505,22 @@ marked_released course trace operation id conv index is =
     any_more (λ o. is_mark_of conv index o.operation) course.operations (operated trace operation) (no_mark operation id conv index is)
 
 -- an operation, which answers the hook that waits
-pub follows_release : {S : Type 0} (answers : Answering S) (due : Due) (course : Course S) (pending : Pending) (conv : ℕ) (was now_kept : Option Draft) (marks : ℕ → Bool) (shown : ℕ → Option Flow)
-    (now : AnswererState S) (trace : Trace) (operation : Operation) (id : FlowId) (hook : Hook) (draft : Draft) → answers_for operation ≡ Some id → id.conv ≡ conv → was ≡ Some draft →
+pub follows_release : {S : Type 0} (answers : Answering S) (due : Due) (course : Course S) (pending : Pending) (conv : ℕ) (was now_kept : Option Waiting) (marks : ℕ → Bool) (shown : ℕ → Option Flow)
+    (now : AnswererState S) (trace : Trace) (operation : Operation) (id : FlowId) (hook : Hook) (held : Waiting) → answers_for operation ≡ Some id → id.conv ≡ conv → was ≡ Some held →
     open_hook conv trace ≡ Some (asks.Hook id.index hook) → Follows answers due course pending conv (record { draft = was; marks = marks; shown = shown }) now trace →
     Follows answers due (with_operation course trace operation) pending conv (record { draft = now_kept; marks = marks; shown = shown }) now
-    (trace ++ steps.Answered conv (asks.Hook id.index hook) (released_by operation draft) ∷ [])
-follows_release {S} answers due course pending conv was now_kept marks shown now trace operation id hook draft for of kept opens f =
+    (trace ++ steps.Answered conv (asks.Hook id.index hook) (released_by operation (with_edits held.edited held.draft)) ∷ [])
+follows_release {S} answers due course pending conv was now_kept marks shown now trace operation id hook held for of is_kept opens f =
     let ask : Ask = asks.Hook id.index hook in
-    let reply = released_by operation draft in
+    let reply = released_by operation (with_edits held.edited held.draft) in
     let next = trace ++ steps.Answered conv ask reply ∷ [] in
     let made = with_operation course trace operation in
-    let given : f.pending.given conv ≡ Some (record { ask = ask; answer = answer.Wait draft }) = f.here ∙ (ap (λ h. waiting h was) opens ∙ ap (waiting (Some ask)) kept) in
-    let P : ℕ → Type 0 = λ n. f.pending.given n ≡ Some (record { ask = ask; answer = answer.Wait draft }) in
+    let given : f.pending.given conv ≡ Some (record { ask = ask; answer = answer.Wait held.draft; edited = held.edited }) = f.here ∙ (ap (λ h. waiting h was) opens ∙ ap (waiting (Some ask)) is_kept) in
+    let P : ℕ → Type 0 = λ n. f.pending.given n ≡ Some (record { ask = ask; answer = answer.Wait held.draft; edited = held.edited }) in
     let Q : ℕ → Type 0 = λ n. Answers answers due made next now (with_pending n None f.pending) in
     record {
       pending = with_pending conv None f.pending;
-      answered = subst Q of (at_release course made trace next now f.pending operation id hook draft f.answered refl for (subst P (sym of) given)
+      answered = subst Q of (at_release course made trace next now f.pending operation id hook held.draft held.edited f.answered refl for (subst P (sym of) given)
           (ap (λ n. trace ++ steps.Answered n ask reply ∷ []) (sym of)));
       here = pending_here conv None f.pending.given ∙ ap (λ h. waiting h now_kept) (sym (hook_answered conv trace ask reply));
       others = λ other apart. pending_other conv other None f.pending.given apart ∙ f.others other apart;

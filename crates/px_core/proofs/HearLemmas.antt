@@ -16,7 +16,7 @@ use Rattle.px_event.specs.Layer.{Move, Took, Replied, Standing, Goes, asks_in}
 use Rattle.px_event.specs.Trace.{Trace}
 use Rattle.px_event.proofs.Seen.{seen_append}
 use Rattle.px_event.specs.View.{View, line, questions, course, flows, order, seen_of, seen_in, step_atoms}
-use Rattle.px_core.specs.declared.answerer.Draft.{Draft}
+use Rattle.px_core.specs.declared.waiting.Waiting.{Waiting}
 use Rattle.px_core.specs.declared.flows.Flows.{Flows}
 use Rattle.px_core.specs.declared.held.Held.{Held}
 use Rattle.px_core.specs.declared.news.News.{News}
@@ -175,7 +175,7 @@ module _ {C : Type 0} (standing : Standing C) (awaited : C → Option Ask) (numb
         ∙ (sym (gave w.made after.conversation (calls_of conv next) (w.given ++ given) (taken_stands due conv peer moment move dial servers before after trace next given w on gives) flows)
         ∙ (seen_append flows w.given given
         ∙ (ap (λ l. seen_of flows w.given ++ l) (quiet given none None None).sees ∙ append-nil (seen_of flows w.given))))) in
-        let P : Option Draft → Type 0 = λ d. IsKept answers due next conv ask d in
+        let P : Option Waiting → Type 0 = λ d. IsKept answers due next conv ask d in
         subst P (sym kept) (kept_on answers due conv trace next ask before.draft (later ∙ sym earlier) (drafted flow hook was))
 
     pub works_taken : (gave : (made state : C) (moves : List Move) (given : List Command) → standing made state moves given →
@@ -190,7 +190,7 @@ module _ {C : Type 0} (standing : Standing C) (awaited : C → Option Ask) (numb
       grown = works.grown;
       own = works.own;
       takes = λ due course pending peer trace next w drafted on served follows.
-          let P : Option Draft → Type 0 = λ d. Follows answers due course pending conv (record { draft = d; marks = has before.marks; shown = shown_in shown conv }) old next in
+          let P : Option Waiting → Type 0 = λ d. Follows answers due course pending conv (record { draft = d; marks = has before.marks; shown = shown_in shown conv }) old next in
           let Q : List (ℕ × ℕ) → Type 0 = λ r. Follows answers due course pending conv (record { draft = between.draft; marks = has r; shown = shown_in shown conv }) old next in
           let to = works.works due course pending next (taken_within due conv peer moment move dial servers before between trace next given w on named gives same) on.now served
           (drafted_taken gave due conv peer moment move dial servers before between trace next given w on gives kept drafted) (subst Q (sym marked) (subst P (sym kept) follows)) in

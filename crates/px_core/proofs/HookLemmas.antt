@@ -16,7 +16,7 @@ use Rattle.px_event.specs.declared.step.Step.TheVariants as steps
 use Rattle.px_event.specs.Layer.{asks_in}
 use Rattle.px_event.specs.Trace.{Trace}
 use Rattle.px_event.specs.View.{flows}
-use Rattle.px_core.specs.declared.answerer.Draft.{Draft}
+use Rattle.px_core.specs.declared.waiting.Waiting.{Waiting}
 use Rattle.px_core.specs.Answers.{Answering}
 use Rattle.px_core.specs.Conversation.{AllNamed, IsHookOf}
 use Rattle.px_core.specs.Due.{Due, due_in, IsAskedLast}
@@ -153,12 +153,13 @@ pub asked_same : (due : Due) (conv : ℕ) (trace next : Trace) (ask : Ask) (flow
 asked_same due conv trace next ask flow same a = record { earlier = a.earlier; last = ap all_unmarked same ∙ a.last }
 
 -- a hook that waits goes on to wait where what was asked last is the same
-pub kept_on : {S : Type 0} (answers : Answering S) (due : Due) (conv : ℕ) (trace next : Trace) (ask : Ask) (kept : Option Draft) →
+pub kept_on : {S : Type 0} (answers : Answering S) (due : Due) (conv : ℕ) (trace next : Trace) (ask : Ask) (kept : Option Waiting) →
     due_in due flows conv next ≡ due_in due flows conv trace → IsKept answers due trace conv ask kept → IsKept answers due next conv ask kept
 kept_on answers due conv trace next ask kept same k =
     let w = k.waits in
     record {
       draft = k.draft;
+      edited = k.edited;
       is = k.is;
       waits = record {
         hook = w.hook;
@@ -171,4 +172,6 @@ kept_on answers due conv trace next ask kept same k =
         new_files = w.new_files;
         answers_so = w.answers_so;
       };
+      changes = k.changes;
+      made = k.made;
     }

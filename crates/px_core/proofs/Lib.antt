@@ -4,6 +4,7 @@ pub mod BegunLemmas
 pub mod BegunRunLemmas
 pub mod AnsweredLemmas
 pub mod CourseLemmas
+pub mod EditLemmas
 pub mod FlowsLemmas
 pub mod AskLemmas
 pub mod CallLemmas

@@ -27,23 +27,27 @@ use Rattle.px_event.specs.View.{View, Atom, questions, seen_of, seen_in, step_at
 use Rattle.px_core.specs.declared.flows.Flows.{Flows}
 use Rattle.px_core.specs.declared.held.Held.{Held}
 use Rattle.px_core.specs.declared.operation.Operation.{Operation}
+use Rattle.px_core.specs.declared.operation.OperateError.{OperateError}
 use Rattle.px_core.specs.declared.operation.OperateError.TheVariants as refused
+use Rattle.px_core.specs.declared.waiting.Waiting.{Waiting}
 use Rattle.px_core.specs.declared.operation.Operation.TheVariants as operations
 use Rattle.px_core.specs.declared.table.Entry.{Entry}
 use Rattle.px_core.specs.declared.table.Entry.TheVariants as place
 use Rattle.px_core.specs.declared.table.Conversations.{Conversations}
-use Rattle.px_core.specs.Answered.{Pending, IsNoAnswer, Answers, at_first, at_hook, at_reply, at_other, at_change, at_mark, at_release, shown_behind, with_shown}
+use Rattle.px_core.specs.Answered.{GivenTo, Pending, IsNoAnswer, Answers, at_first, at_hook, at_reply, at_other, at_change, at_mark, at_edit, at_release, left_waiting, shown_behind, with_shown}
 use Rattle.px_core.specs.Answers.{Answering, AnswererState, ByAnswers, FilesMeaning, by_none}
 use Rattle.px_core.specs.Calls.{calls}
 use Rattle.px_core.specs.Course.{Course, Operated, is_mark_of, is_marked, operated, with_operation}
-use Rattle.px_core.specs.Drafts.{answers_for}
+use Rattle.px_core.specs.Drafts.{answers_for, edited_at}
+use Rattle.px_draft.specs.declared.edit.Edit.{Edit}
+use Rattle.px_draft.specs.Edits.{changed, fresh}
 use Rattle.px_core.specs.Due.{Due}
-use Rattle.px_core.specs.Held.{AllOf, Kept, kept_of, waiting, IsReleased, Releases, Follows}
+use Rattle.px_core.specs.Held.{AllOf, IsChanged, IsKept, IsSettled, Kept, kept_of, waiting, IsReleased, Releases, Follows}
 use Rattle.px_core.specs.Hooks.{open_hook, hook_of}
 use Rattle.px_core.specs.Live.{AreLive, IsLastAsked, flow_cmp, is_same_flow, pair_cmp, hook_in, is_live, live_from, live_on, shown_in, waiting_hook}
-use Rattle.px_core.specs.Router.{Found, unknown, over, lost, live, found, found_at, found_by, hook_at, place_of, AllOfAny, AwaitsFor, IsLive, IsNow, IsTabled, IsUnknown, KeepsMarks, Operates, PutsPlace, ReleasesAt, StandsIn, TableStands, MovesBy, caused_in, conv_of, draft_of, operated_on, refusal, refusal_at}
+use Rattle.px_core.specs.Router.{Found, unknown, over, lost, live, found, found_at, found_by, hook_at, place_of, AllOfAny, AwaitsFor, IsLive, IsNow, IsTabled, IsUnknown, KeepsMarks, Operates, PutsPlace, ReleasesAt, StandsIn, TableStands, MovesBy, caused_in, conv_of, draft_of, operated_on, refusal, refusal_at, refusal_in, refusal_of, refusal_or, EditsAt, IsJudged}
 use Rattle.px_core.specs.Runs.{has}
-use Rattle.px_core.proofs.AnsweredLemmas.{any_more, marked_released}
+use Rattle.px_core.proofs.AnsweredLemmas.{any_more, changed_more, marked_released, pending_here, pending_other}
 use Rattle.px_core.proofs.CallLemmas.{others_calls, others_seen, same_number}
 use Rattle.px_core.proofs.HookLemmas.{others_hook}
 use Rattle.px_core.proofs.CourseLemmas.{stands_changed}
@@ -89,7 +93,8 @@ shown_live answers due course whole now pending (at_other c trace next state was
     ∙ (sym (live_from-more conv index false trace step) ∙ ap (live_from conv index false) (sym split)))
 shown_live answers due course whole now pending (at_change made next trace old new was before split) conv index = shown_live answers due made whole old pending before conv index
 shown_live answers due course whole now pending (at_mark made next trace state was id before split) conv index = shown_live answers due made whole now pending before conv index
-shown_live answers due course whole now pending (at_release made c trace next state was operation id hook draft before split for waits grown) conv index =
+shown_live answers due course whole now pending (at_edit made next trace state was id change hook draft edits edited before split waits changes) conv index = shown_live answers due made whole now was before conv index
+shown_live answers due course whole now pending (at_release made c trace next state was operation id hook draft edited before split for waits grown) conv index =
     shown_live answers due made trace now was before conv index
     ∙ (sym (live_from-more conv index false trace (steps.Answered id.conv (asks.Hook id.index hook) _)) ∙ ap (live_from conv index false) (sym grown))
 
@@ -185,7 +190,7 @@ other_more conv other trace more all apart =
       hook = others_hook conv other trace more all apart;
     }
 
-same_trace : (conv : ℕ) (trace : Trace) → Same conv trace trace
+pub same_trace : (conv : ℕ) (trace : Trace) → Same conv trace trace
 same_trace conv trace = record { moves = refl; peer = refl; dial = refl; connected = refl; sees = λ view told. refl; hook = refl }
 
 hook_in_of : (index : ℕ) (awaits : Option Ask) → hook_in index (hook_of awaits) ≡ hook_in index awaits
@@ -198,18 +203,21 @@ operated_is : {S : Type 0} (course : Course S) (trace : Trace) (operation : Oper
     with_operation course trace operation ≡ operated_on course trace operation old new
 operated_is course trace (operations.Resume other) old new id is = refl
 operated_is course trace (operations.Kill other) old new id is = refl
+operated_is course trace (operations.Edit other change) old new id is = absurd (let no : None ≡ Some id = is in cc)
 operated_is course trace (operations.Mark other) old new id is = refl
 operated_is course trace (operations.DropAddon name) old new id is = absurd (let no : None ≡ Some id = is in cc)
 
 pub conv_for : (operation : Operation) (id : FlowId) → answers_for operation ≡ Some id → conv_of operation ≡ Some id.conv
 conv_for (operations.Resume other) id is = let same : other ≡ id = cc in ap (λ i. Some i.conv) same
 conv_for (operations.Kill other) id is = let same : other ≡ id = cc in ap (λ i. Some i.conv) same
+conv_for (operations.Edit other change) id is = absurd (let no : None ≡ Some id = is in cc)
 conv_for (operations.Mark other) id is = absurd (let no : None ≡ Some id = is in cc)
 conv_for (operations.DropAddon name) id is = absurd (let no : None ≡ Some id = is in cc)
 
 caused_for : (operation : Operation) (id : FlowId) → answers_for operation ≡ Some id → caused_in operation ≡ Some id.conv
 caused_for (operations.Resume other) id is = let same : other ≡ id = cc in ap (λ i. Some i.conv) same
 caused_for (operations.Kill other) id is = let same : other ≡ id = cc in ap (λ i. Some i.conv) same
+caused_for (operations.Edit other change) id is = absurd (let no : None ≡ Some id = is in cc)
 caused_for (operations.Mark other) id is = absurd (let no : None ≡ Some id = is in cc)
 caused_for (operations.DropAddon name) id is = absurd (let no : None ≡ Some id = is in cc)
 
@@ -218,6 +226,7 @@ pub moves_for : {S : Type 0} (answers : Answering S) (drops : List ℕ → S →
     MovesBy answers drops operation old new
 moves_for answers drops (operations.Resume other) id old new is given = given
 moves_for answers drops (operations.Kill other) id old new is given = given
+moves_for answers drops (operations.Edit other change) id old new is given = given
 moves_for answers drops (operations.Mark other) id old new is given = given
 moves_for answers drops (operations.DropAddon name) id old new is given = absurd (let no : None ≡ Some id = is in cc)
 
@@ -225,6 +234,14 @@ moves_for answers drops (operations.DropAddon name) id old new is given = absurd
 pub moves_marked : {S : Type 0} (answers : Answering S) (drops : List ℕ → S → S → Type 0) (operation : Operation) (id : FlowId) (own new_own : S) (files : FilesMeaning) → operation ≡ operations.Mark id → new_own ≡ own →
     MovesBy answers drops operation (record { own = own; files = files }) (record { own = new_own; files = files })
 moves_marked answers drops operation id own new_own files is same =
+    let P : Operation → Type 0 = λ o. MovesBy answers drops o (record { own = own; files = files }) (record { own = new_own; files = files }) in
+    let Q : _ → Type 0 = λ n. ByAnswers answers (record { own = own; files = files }) (record { own = n; files = files }) in
+    subst P (sym is) (subst Q (sym same) (by_none (record { own = own; files = files })))
+
+-- so does a change of a draft
+pub moves_edited : {S : Type 0} (answers : Answering S) (drops : List ℕ → S → S → Type 0) (operation : Operation) (id : FlowId) (change : Edit) (own new_own : S) (files : FilesMeaning) →
+    operation ≡ operations.Edit id change → new_own ≡ own → MovesBy answers drops operation (record { own = own; files = files }) (record { own = new_own; files = files })
+moves_edited answers drops operation id change own new_own files is same =
     let P : Operation → Type 0 = λ o. MovesBy answers drops o (record { own = own; files = files }) (record { own = new_own; files = files }) in
     let Q : _ → Type 0 = λ n. ByAnswers answers (record { own = own; files = files }) (record { own = n; files = files }) in
     subst P (sym is) (subst Q (sym same) (by_none (record { own = own; files = files })))
@@ -237,14 +254,26 @@ moves_dropped answers drops operation name given own new_own files is same dropp
     let P : Operation → Type 0 = λ o. MovesBy answers drops o (record { own = own; files = files }) (record { own = new_own; files = files }) in
     subst P (sym is) (subst D same dropped, refl)
 
-pub refusal_for : (operation : Operation) (id : FlowId) (names : List (List ℕ)) (trace : Trace) → answers_for operation ≡ Some id →
-    refusal operation names trace ≡ refusal_at (is_live id trace) (is_some (waiting_hook id trace))
-refusal_for (operations.Resume other) id names trace is =
+pub refusal_for : (operation : Operation) (id : FlowId) (names : List (List ℕ)) (given : ℕ → Option GivenTo) (trace : Trace) → answers_for operation ≡ Some id →
+    refusal operation names given trace ≡ refusal_at (is_live id trace) (is_some (waiting_hook id trace))
+refusal_for (operations.Resume other) id names given trace is =
     let same : other ≡ id = cc in ap (λ i. refusal_at (is_live i trace) (is_some (waiting_hook i trace))) same
-refusal_for (operations.Kill other) id names trace is =
+refusal_for (operations.Kill other) id names given trace is =
     let same : other ≡ id = cc in ap (λ i. refusal_at (is_live i trace) (is_some (waiting_hook i trace))) same
-refusal_for (operations.Mark other) id names trace is = absurd (let no : None ≡ Some id = is in cc)
-refusal_for (operations.DropAddon name) id names trace is = absurd (let no : None ≡ Some id = is in cc)
+refusal_for (operations.Edit other change) id names given trace is = absurd (let no : None ≡ Some id = is in cc)
+refusal_for (operations.Mark other) id names given trace is = absurd (let no : None ≡ Some id = is in cc)
+refusal_for (operations.DropAddon name) id names given trace is = absurd (let no : None ≡ Some id = is in cc)
+
+-- a change of what waits, where its flow is live and waits, and where it is not
+pub refusal_edit : (id : FlowId) (change : Edit) (names : List (List ℕ)) (given : ℕ → Option GivenTo) (trace : Trace) (hook : Hook) (kept : Waiting) (outcome : Option OperateError) →
+    refusal_at (is_live id trace) (is_some (waiting_hook id trace)) ≡ None → given id.conv ≡ Some (left_waiting id.index hook kept.draft kept.edited) →
+    refusal_of (changed change (edited_at hook kept.draft kept.edited)) ≡ outcome → refusal (operations.Edit id change) names given trace ≡ outcome
+refusal_edit id change names given trace hook kept outcome none waits is =
+    ap (λ r. refusal_or r (refusal_in change (given id.conv))) none ∙ (ap (refusal_in change) waits ∙ is)
+
+pub refusal_first : (id : FlowId) (change : Edit) (names : List (List ℕ)) (given : ℕ → Option GivenTo) (trace : Trace) (error : OperateError) →
+    refusal_at (is_live id trace) (is_some (waiting_hook id trace)) ≡ Some error → refusal (operations.Edit id change) names given trace ≡ Some error
+refusal_first id change names given trace error is = ap (λ r. refusal_or r (refusal_in change (given id.conv))) is
 
 own_any : (at : Option ℕ) (conv : ℕ) (more : List Step) → at ≡ Some conv → AllOf conv more → AllOfAny at more
 own_any at conv more is all = let P : Option ℕ → Type 0 = λ a. AllOfAny a more in subst P (sym is) all
@@ -335,7 +364,7 @@ module _ {C : Type 0} (standing : Standing C) (awaited : C → Option Ask) (numb
           (marks_in standing awaited number made_due gave grows answers ended ends rests made.operations id.conv new_held (found after id.conv) there next.3.marks) (λ index. refl));
     }
 
-    named_at : (due : Due) {course : Course S} {now : AnswererState S} (table : Conversations C) (trace : Trace) (conv key : ℕ) (held : Held C) → TableStands standing awaited number made_due answers due course now table trace →
+    pub named_at : (due : Due) {course : Course S} {now : AnswererState S} (table : Conversations C) (trace : Trace) (conv key : ℕ) (held : Held C) → TableStands standing awaited number made_due answers due course now table trace →
         place_of table conv ≡ Some (place.Live key) → slab.get table.live key ≡ Some held → number held.conversation ≡ conv
     named_at due table trace conv key held stands at is =
         let P : Found (Held C) → Type 0 = StandsIn standing awaited number made_due answers due conv trace in

@@ -119,6 +119,8 @@ module _ {C : Type 0} (standing : Standing C) (awaited : C → Option Ask) (numb
       follows_front due _ _ _ after trace given list refl front (operated_stands moment (operations.Resume id) before after empty list none r due course trace now stands)
   follows_part moment (operations.Kill id) before after empty list given none r due course trace now stands front =
       follows_front due _ _ _ after trace given list refl front (operated_stands moment (operations.Kill id) before after empty list none r due course trace now stands)
+  follows_part moment (operations.Edit id change) before after empty list given none r due course trace now stands front =
+      follows_front due _ _ _ after trace given list refl front (operated_stands moment (operations.Edit id change) before after empty list none r due course trace now stands)
   follows_part moment (operations.Mark id) before after empty list given none r due course trace now stands front =
       follows_front due _ _ _ after trace given list refl front (operated_stands moment (operations.Mark id) before after empty list none r due course trace now stands)
   follows_part moment (operations.DropAddon name) before after empty list given none r due course trace now stands front =

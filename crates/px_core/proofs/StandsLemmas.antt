@@ -1,5 +1,5 @@
 -- What a table that stands for a trace says of it.
-use Rattle.std.proofs.Common.{◌≡◌, ◌≢◌, ℕ, true, List, [], ◌∷◌, ◌++◌, Option, Some, None, is_some, refl, ap, sym, ◌∙◌, subst}
+use Rattle.std.proofs.Common.{◌≡◌, ◌≢◌, ◌≤◌, ◌-◌, ◌^◌, ℕ, Bool, true, min, List, [], ◌∷◌, ◌++◌, Option, Some, None, is_some, refl, ap, sym, ◌∙◌, subst, arith}
 use Rattle.std.proofs.lemmas.List.{append-nil}
 use Rattle.slab.specs.Slab as slab
 use Rattle.px_text.specs.Prefix.{IsPrefixOf}
@@ -8,11 +8,12 @@ use Rattle.px_event.specs.declared.ask.Ask.{Ask}
 use Rattle.px_event.specs.declared.command.Command.{Command}
 use Rattle.px_event.specs.declared.heard.Heard.{Heard}
 use Rattle.px_event.specs.declared.step.Step.TheVariants as steps
-use Rattle.px_event.specs.Layer.{Move, Standing}
+use Rattle.px_event.specs.Layer.{IsSound, Move, Standing}
 use Rattle.px_event.specs.Trace.{Trace}
 use Rattle.px_event.specs.View.{View, seen_of}
 use Rattle.px_core.specs.declared.answerer.Answer.TheVariants as answer
 use Rattle.px_core.specs.declared.answerer.Draft.{Draft}
+use Rattle.px_draft.specs.declared.edited.Edited.{Edited}
 use Rattle.px_core.specs.declared.held.Held.{Held}
 use Rattle.px_core.specs.declared.news.News.{News}
 use Rattle.px_core.specs.declared.news.News.TheVariants as news
@@ -21,12 +22,12 @@ use Rattle.px_core.specs.declared.table.Entry.TheVariants as place
 use Rattle.px_core.specs.declared.table.Conversations.{Conversations}
 use Rattle.px_core.specs.Answered.{GivenTo, RestsBy}
 use Rattle.px_core.specs.Answers.{Answering, AnswererState}
-use Rattle.px_core.specs.Calls.{addressed, calls}
+use Rattle.px_core.specs.Calls.{addressed, calls, calls_of}
 use Rattle.px_core.specs.Course.{Course}
 use Rattle.px_core.specs.Due.{Due}
 use Rattle.px_core.specs.Held.{waiting}
 use Rattle.px_core.specs.Hooks.{hook_of, open_hook}
-use Rattle.px_core.specs.Router.{Found, unknown, over, lost, live, draft_of, found, found_at, found_by, place_of, StandsIn, TableStands}
+use Rattle.px_core.specs.Router.{Found, unknown, over, lost, live, draft_of, found, found_at, found_by, keeps_no_body, place_of, IsLive, StandsIn, TableStands}
 use Rattle.px_core.proofs.AnsweredLemmas.{whole_front}
 use Rattle.px_core.proofs.HookLemmas.{hook_is, hook_named}
 use Rattle.px_core.proofs.RouteLemmas.{unknown_hands}
@@ -47,6 +48,17 @@ module _ {C : Type 0} (standing : Standing C) (awaited : C → Option Ask) (numb
       is_some (place_of table conv) ≡ is_some (calls conv trace).peer
   known_begun table trace conv stands = begun_by conv trace table.live (place_of table conv) (stands.at conv)
 
+  -- one that is live and keeps no body keeps little
+  pub keeps_little : {course : Course S} {now : AnswererState S} (kept : C → ℕ) (no_body : C → Bool) (table : Conversations C) (trace : Trace) (conv : ℕ) (held : Held C) (given : ℕ) →
+      TableStands standing awaited number made_due answers due course now table trace → found table conv ≡ live held →
+      (IsSound standing held.conversation → no_body held.conversation ≡ true → kept held.conversation ≤ 133120) → given ≡ min (kept held.conversation) (2 ^ 64 - 1) →
+      keeps_no_body no_body (found table conv) ≡ true → given ≤ 133120
+  keeps_little kept no_body table trace conv held given stands there bound is keeps =
+      let P : Found (Held C) → Type 0 = StandsIn standing awaited number made_due answers due conv trace in
+      let w : IsLive standing awaited number made_due answers due conv held trace = subst P there (stands.at conv) in
+      let few : kept held.conversation ≤ 133120 = bound (w.within.made, calls_of conv trace, w.within.given, w.within.stands) (sym (ap (keeps_no_body no_body) there) ∙ keeps) in
+      omega arith
+
   -- one that has not begun is unknown
   unknown_by : (conv : ℕ) (trace : Trace) (x : Found (Held C)) → (calls conv trace).peer ≡ None → StandsIn standing awaited number made_due answers due conv trace x → x ≡ unknown
   unknown_by conv trace unknown none w = refl
@@ -57,7 +69,7 @@ module _ {C : Type 0} (standing : Standing C) (awaited : C → Option Ask) (numb
   -- a hook that is open was let wait with the draft that is kept
   waits_with : (conv : ℕ) (trace : Trace) (x : Found (Held C)) (given : Option GivenTo) → StandsIn standing awaited number made_due answers due conv trace x →
       given ≡ waiting (open_hook conv trace) (draft_of x) → (ask : Ask) → open_hook conv trace ≡ Some ask →
-      (draft : Draft) × (given ≡ Some (record { ask = ask; answer = answer.Wait draft }))
+      (draft : Draft) × (edited : Option Edited) × (given ≡ Some (record { ask = ask; answer = answer.Wait draft; edited = edited }))
   waits_with conv trace unknown given w is ask opened = absurd (let no : None ≡ Some ask = sym w.hook ∙ opened in cc)
   waits_with conv trace over given w is ask opened = absurd (let no : None ≡ Some ask = sym w.hook ∙ opened in cc)
   waits_with conv trace lost given w is ask opened = absurd w
@@ -65,7 +77,7 @@ module _ {C : Type 0} (standing : Standing C) (awaited : C → Option Ask) (numb
       let waits : hook_of (awaited held.conversation) ≡ Some ask = sym w.within.turn ∙ opened in
       let named = hook_named (awaited held.conversation) ask waits in
       let kept = w.drafted named.0 named.1 (hook_is (awaited held.conversation) ask waits ∙ ap Some named.2) in
-      (kept.draft, is ∙ (ap (λ h. waiting h held.draft) opened ∙ ap (waiting (Some ask)) kept.is))
+      (kept.draft, kept.edited, is ∙ (ap (λ h. waiting h held.draft) opened ∙ ap (waiting (Some ask)) kept.is))
 
   -- the trace rests
   pub rests_by : {course : Course S} {now : AnswererState S} (table : Conversations C) (trace : Trace) → TableStands standing awaited number made_due answers due course now table trace →

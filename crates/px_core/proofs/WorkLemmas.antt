@@ -15,6 +15,7 @@ use Rattle.px_event.specs.View.{View, line, questions, course, flows, order, abo
 use Rattle.px_core.specs.declared.answerer.Answer.{Answer}
 use Rattle.px_core.specs.declared.answerer.Answer.TheVariants as answer
 use Rattle.px_core.specs.declared.answerer.Draft.{Draft}
+use Rattle.px_core.specs.declared.waiting.Waiting.{Waiting}
 use Rattle.px_message.specs.declared.flow.Flow.{Flow}
 use Rattle.px_core.specs.declared.flows.Flows.{Flows}
 use Rattle.px_core.specs.declared.held.Held.{Held}
@@ -22,7 +23,7 @@ use Rattle.px_core.specs.declared.held.Question.{Question}
 use Rattle.px_core.specs.Answers.{Answering, AnswererState}
 use Rattle.px_core.specs.Calls.{Calls, calls, calls_of, calls_on, moved}
 use Rattle.px_core.specs.Conversation.{AllNamed}
-use Rattle.px_core.specs.Drafts.{ComesTo, released_by}
+use Rattle.px_core.specs.Drafts.{ComesTo, released_by, with_edits}
 use Rattle.px_core.specs.declared.operation.Operation.{Operation}
 use Rattle.px_core.specs.Answered.{Pending}
 use Rattle.px_core.specs.Course.{Course, with_operation}
@@ -197,7 +198,7 @@ module _ {C : Type 0} (standing : Standing C) (awaited : C → Option Ask) (numb
   pub wait_works : (conv moment : ℕ) (question : Question) (draft : Draft) (before after : Held C) (shown : Flows) (out new_out : List Step)
       (old new : AnswererState S) → IsNext awaited before (Some question) →
       (given_answer : Answer) → answers question.hook question.flow old.own old.files new.own new.files given_answer → given_answer ≡ answer.Wait draft →
-      after.conversation ≡ before.conversation → after.connected ≡ before.connected → after.draft ≡ Some draft → after.marks ≡ before.marks → new_out ≡ out → IsSettled awaited after →
+      after.conversation ≡ before.conversation → after.connected ≡ before.connected → after.draft ≡ Some (record { draft = draft; edited = None }) → after.marks ≡ before.marks → new_out ≡ out → IsSettled awaited after →
       Asks standing awaited number made_due answers conv moment (Some question) before after shown shown old new None out new_out
   wait_works conv moment question draft before after shown out new_out old new next_before given_answer met is same sides kept marks_kept grown settled = record {
     more = [];
@@ -206,7 +207,7 @@ module _ {C : Type 0} (standing : Standing C) (awaited : C → Option Ask) (numb
     works = λ due course pending trace at.
         let P : Trace → Type 0 = WorkedTo standing awaited number made_due answers due course pending conv moment after shown new None in
         let gives_so : Answer → Type 0 = λ a. answers question.hook question.flow old.own old.files new.own new.files a in
-        let kept_now : Kept = record { draft = Some draft; marks = has before.marks; shown = shown_in shown conv } in
+        let kept_now : Kept = record { draft = Some (record { draft = draft; edited = None }); marks = has before.marks; shown = shown_in shown conv } in
         let w = at.within in
         let Q : C → Type 0 = λ s. standing w.made s (calls_of conv trace) w.given in
         subst P (sym (append-nil trace)) (record {
@@ -234,6 +235,7 @@ module _ {C : Type 0} (standing : Standing C) (awaited : C → Option Ask) (numb
               let R : Ask → Type 0 = λ a. Waits answers due trace conv a draft in
               record {
                 draft = draft;
+                edited = None;
                 is = kept;
                 waits = subst R is_asked (record {
                   hook = question.hook;
@@ -246,6 +248,8 @@ module _ {C : Type 0} (standing : Standing C) (awaited : C → Option Ask) (numb
                   new_files = new.files;
                   answers_so = subst gives_so is met;
                 });
+                changes = [];
+                made = refl;
               };
           follows = follows_as due course pending conv kept_now (kept_of conv after shown) new trace None (sym kept) (ap (λ r. has r) (sym marks_kept)) (λ index. refl)
               (follows_wait answers due course pending conv before.draft (has before.marks) (shown_in shown conv) draft old new trace question next_before.1 (subst gives_so is met) at.follows);
@@ -391,7 +395,7 @@ module _ {C : Type 0} (standing : Standing C) (awaited : C → Option Ask) (numb
             let served = served_step answers due conv trace answered refl at.served
             (within_due answers due standing awaited number made_due gave conv after (trace ++ answered ∷ []) r.given w) (ends_met answers due conv trace ask reply here)
             (at.within.turn ∙ (ap hook_of (next_before.0 ∙ ap Some next_before.1) ∙ ap Some (sym next_before.1))) in
-            let T : Option Draft → Type 0 = λ d. Follows answers due course pending conv (record { draft = d; marks = marks; shown = shown_in shown conv }) new (trace ++ answered ∷ []) in
+            let T : Option Waiting → Type 0 = λ d. Follows answers due course pending conv (record { draft = d; marks = marks; shown = shown_in shown conv }) new (trace ++ answered ∷ []) in
             let P : Trace → Type 0 = WorkedTo standing awaited number made_due answers due course pending conv moment after new_shown new open_now in
             subst P (append_assoc trace (answered ∷ []) (map (step_of conv) told_now))
             (replied conv moment ask reply before after shown new_shown open_now out new_out r due course pending new (trace ++ answered ∷ []) w now served
@@ -401,14 +405,14 @@ module _ {C : Type 0} (standing : Standing C) (awaited : C → Option Ask) (numb
       }
 
   -- an operation on the hook that waits, with what it leads to
-  pub release_works : (conv moment : ℕ) (operation : Operation) (draft : Draft) (ask : Ask) (reply : Reply) (left : Option Draft) (before between after : Held C) (shown mid_shown new_shown : Flows) (open_now : Option Question)
-      (out mid_out new_out : List Step) (old new : AnswererState S) → IsReleased awaited conv operation before → before.draft ≡ Some draft → awaited before.conversation ≡ Some ask →
-      reply ≡ released_by operation draft → number between.conversation ≡ conv →
+  pub release_works : (conv moment : ℕ) (operation : Operation) (kept : Waiting) (ask : Ask) (reply : Reply) (left : Option Waiting) (before between after : Held C) (shown mid_shown new_shown : Flows) (open_now : Option Question)
+      (out mid_out new_out : List Step) (old new : AnswererState S) → IsReleased awaited conv operation before → before.draft ≡ Some kept → awaited before.conversation ≡ Some ask →
+      reply ≡ released_by operation (with_edits kept.edited kept.draft) → number between.conversation ≡ conv →
       Replies standing awaited conv moment ask reply (record { conversation = before.conversation; connected = before.connected; draft = left; marks = before.marks }) between shown mid_shown open_now
       out mid_out →
       Asks standing awaited number made_due answers conv moment open_now between after mid_shown new_shown old new None mid_out new_out →
       Releases standing awaited number made_due answers conv moment operation before after shown new_shown old new out new_out
-  release_works conv moment operation draft ask reply left before between after shown mid_shown new_shown open_now out mid_out new_out old new (id, hook, for, of, waits) drafted_now asked_now said named_after r rest =
+  release_works conv moment operation kept ask reply left before between after shown mid_shown new_shown open_now out mid_out new_out old new (id, hook, for, of, waits) drafted_now asked_now said named_after r rest =
       let taken : Held C = record { conversation = before.conversation; connected = before.connected; draft = left; marks = before.marks } in
       let is_ask : ask ≡ asks.Hook id.index hook = same_some ask (asks.Hook id.index hook) (sym asked_now ∙ waits) in
       let answered = steps.Answered conv ask reply in
@@ -423,12 +427,13 @@ module _ {C : Type 0} (standing : Standing C) (awaited : C → Option Ask) (numb
         releases = λ due course pending trace w_before drafted now_before served_before f.
             let made = with_operation course trace operation in
             let k : IsKept answers due trace conv (asks.Hook id.index hook) before.draft = drafted id.index hook waits in
-            let same_draft : k.draft ≡ draft = same_some k.draft draft (sym k.is ∙ drafted_now) in
+            let kept_was : Waiting = record { draft = k.draft; edited = k.edited } in
+            let same_kept : kept_was ≡ kept = same_some kept_was kept (sym k.is ∙ drafted_now) in
             let w = answered_within due conv moment ask reply taken between trace r.given
             (taken_within due conv before taken trace refl refl w_before) now_before named_after
             (no_dial_of (awaited before.conversation) ask id.index hook asked_now is_ask) r.named r.goes r.asks_one r.same_sides in
             let k_waits = k.waits in
-            let C' : Reply → Type 0 = λ x. ComesTo (answer.Wait k.draft) x in
+            let C' : Reply → Type 0 = λ x. ComesTo k_waits.hook (answer.Wait k.draft) x in
             let M : Ask → Type 0 = λ a. IsMet answers due trace conv a reply in
             let here : IsMet answers due trace conv ask reply = subst M (sym is_ask) (record {
               hook = k_waits.hook;
@@ -436,7 +441,7 @@ module _ {C : Type 0} (standing : Standing C) (awaited : C → Option Ask) (numb
               asked = k_waits.asked;
               last = k_waits.last;
               given = answer.Wait k.draft;
-              comes = subst C' (ap (released_by operation) same_draft ∙ sym said) (comes_released operation k.draft);
+              comes = subst C' (ap (λ (w : Waiting). released_by operation (with_edits w.edited w.draft)) same_kept ∙ sym said) (comes_released operation k_waits.hook k.draft k.edited k.changes k.made);
               old = k_waits.old;
               old_files = k_waits.old_files;
               new = k_waits.new;
@@ -453,7 +458,7 @@ module _ {C : Type 0} (standing : Standing C) (awaited : C → Option Ask) (numb
             let G : Reply → Type 0 = λ x. F (asks.Hook id.index hook) x in
             let H : Ask → Type 0 = λ a. F a reply in
             let follows = subst H (sym is_ask) (subst G (sym said)
-            (follows_release answers due course pending conv before.draft between.draft marks (shown_in shown conv) old trace operation id hook draft for of drafted_now opens f)) in
+            (follows_release answers due course pending conv before.draft between.draft marks (shown_in shown conv) old trace operation id hook kept for of drafted_now opens f)) in
             let mid = replied conv moment ask reply taken between shown mid_shown open_now out mid_out r due made pending old (trace ++ answered ∷ []) w now served follows in
             let P : Trace → Type 0 = WorkedTo standing awaited number made_due answers due made pending conv moment between mid_shown old open_now in
             let at = rest.works due made pending (trace ++ first) (subst P (append_assoc trace (answered ∷ []) (map (step_of conv) told_now)) mid) in

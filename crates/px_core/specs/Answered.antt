@@ -2,8 +2,9 @@
 --
 -- One answerer answers the hooks of all conversations. What it is moves at each hook that is asked, in the order of the trace, and
 -- else where the course of the run says so. So what it gives follows from what it was at first, from all that it was asked before and
--- from those changes. A hook that it let wait is answered where the course has an operator's word, and nowhere else.
-use Rattle.std.specs.Prelude.{◌≡◌, ℕ, ◌==◌, ◌&&◌, if◌then◌else◌, List, [], ◌∷◌, ◌++◌, Option, Some, None}
+-- from those changes. A hook that it let wait is answered where the course has an operator's word, and nowhere else; and what
+-- lines made of its draft by then, the course says too.
+use Rattle.std.specs.Prelude.{◌≡◌, ℕ, ◌==◌, ◌&&◌, if◌then◌else◌, List, [], ◌∷◌, ◌++◌, Option, Some, None, Ok}
 use Rattle.px_message.specs.declared.flow.Flow.{Flow}
 use Rattle.px_message.specs.declared.flow.FlowId.{FlowId}
 use Rattle.px_event.specs.declared.ask.Ask.{Ask}
@@ -17,19 +18,31 @@ use Rattle.px_core.specs.declared.answerer.Answer.{Answer}
 use Rattle.px_core.specs.declared.answerer.Answer.TheVariants as answer
 use Rattle.px_core.specs.Answers.{Answering, AnswererState, Failing, FilesAfter, FilesMeaning}
 use Rattle.px_core.specs.Course.{Course, Operated, IsFrontOf, is_marked, with_change, with_operation}
-use Rattle.px_core.specs.Drafts.{answers_for, released_by}
+use Rattle.px_core.specs.Drafts.{answers_for, edited_at, released_by, with_edits}
 use Rattle.px_core.specs.Due.{Due, IsAskedLast}
 use Rattle.px_core.specs.Hooks.{open_hook}
 use Rattle.px_core.specs.declared.answerer.Draft.{Draft}
 use Rattle.px_core.specs.declared.operation.Operation.{Operation}
 use Rattle.px_core.specs.declared.operation.Operation.TheVariants as operations
+use Rattle.px_draft.specs.declared.edit.Edit.{Edit}
+use Rattle.px_draft.specs.declared.edited.Edited.{Edited}
+use Rattle.px_draft.specs.Edits.{changed}
 
--- what the answerer gave to a hook
+-- what the answerer gave to a hook, and what lines made of it since, where it is a draft that waits and any did
 pub record GivenTo : Type 0 where
   pub ask : Ask
   pub answer : Answer
+  pub edited : Option Edited
 
--- What is pending: by conversation, what it gave to the hook that is asked and not answered; and by conversation and index, what each flow
+-- what it gave, which no line has changed
+abbrev pub just_given : Ask → Answer → GivenTo
+just_given ask what = record { ask = ask; answer = what; edited = None }
+
+-- a draft with which the hook of a flow waits
+abbrev pub left_waiting : ℕ → Hook → Draft → Option Edited → GivenTo
+left_waiting index hook draft edited = record { ask = asks.Hook index hook; answer = answer.Wait draft; edited = edited }
+
+-- What is pending: by conversation, what it gave to the hook that is asked and not answered, with what lines made of it; and by conversation and index, what each flow
 -- was when it was asked about it last, until that flow is finished.
 pub record Pending : Type 0 where
   pub given : ℕ → Option GivenTo
@@ -77,7 +90,7 @@ IsNoAnswer _ = Unit {0}
 -- The answerer over a trace, by a course, and what is pending then. It begins as the course says, and moves at each hook that is asked,
 -- once, by its own relation and about the flow that is due there, with the mark that the course made in front of it. A reply that it gave at
 -- once stands in the trace as that hook's answer. A hook that it let wait is answered by an operation of the course, in its place, with what
--- that makes of the draft. Nothing else is an answer. A flow that is finished has its mark too. All changes and operations of the course were
+-- that makes of the draft as the changes of the course in front of it left it, each of which changed it. Nothing else is an answer. A flow that is finished has its mark too. All changes and operations of the course were
 -- made, each once, in their order and behind its own trace.
 pub data Answers {S : Type 0} (answers : Answering S) (due : Due) : Course S → Trace → AnswererState S → Pending → Type 0 where
   at_first : (course : Course S) → course.changes ≡ [] → course.operations ≡ [] → Answers answers due course [] course.first nothing_pending
@@ -85,10 +98,10 @@ pub data Answers {S : Type 0} (answers : Answering S) (due : Due) : Course S →
       Answers answers due course trace old pending → next ≡ trace ++ steps.Asked conv (asks.Hook flow.id.index hook) ∷ [] → pending.given conv ≡ None →
       IsAskedLast due trace conv (asks.Hook flow.id.index hook) flow → flow.marked ≡ is_marked course.operations conv flow.id.index →
       answers hook flow old.own old.files new.own new.files given →
-      Answers answers due course next new (with_asked conv (record { ask = asks.Hook flow.id.index hook; answer = given }) flow pending)
+      Answers answers due course next new (with_asked conv (just_given (asks.Hook flow.id.index hook) given) flow pending)
   at_reply : (course : Course S) (trace next : Trace) (now : AnswererState S) (pending : Pending) (conv : ℕ) (ask : Ask) (reply : Reply) →
       Answers answers due course trace now pending → next ≡ trace ++ steps.Answered conv ask reply ∷ [] →
-      pending.given conv ≡ Some (record { ask = ask; answer = answer.Reply reply }) →
+      pending.given conv ≡ Some (just_given ask (answer.Reply reply)) →
       Answers answers due course next now (with_pending conv None pending)
   at_other : (course : Course S) (trace next : Trace) (now : AnswererState S) (pending : Pending) (step : Step) →
       Answers answers due course trace now pending → next ≡ trace ++ step ∷ [] → IsNoAnswer step → IsMarkedBy course.operations step →
@@ -97,10 +110,13 @@ pub data Answers {S : Type 0} (answers : Answering S) (due : Due) : Course S →
       Answers answers due course trace old pending → next ≡ with_change course trace old new → Answers answers due next trace new pending
   at_mark : (course next : Course S) (trace : Trace) (now : AnswererState S) (pending : Pending) (id : FlowId) →
       Answers answers due course trace now pending → next ≡ with_operation course trace (operations.Mark id) → Answers answers due next trace now pending
-  at_release : (course made : Course S) (trace next : Trace) (now : AnswererState S) (pending : Pending) (operation : Operation) (id : FlowId) (hook : Hook) (draft : Draft) →
+  at_edit : (course next : Course S) (trace : Trace) (now : AnswererState S) (pending : Pending) (id : FlowId) (change : Edit) (hook : Hook) (draft : Draft) (was : Option Edited) (edited : Edited) →
+      Answers answers due course trace now pending → next ≡ with_operation course trace (operations.Edit id change) → pending.given id.conv ≡ Some (left_waiting id.index hook draft was) →
+      changed change (edited_at hook draft was) ≡ Ok edited → Answers answers due next trace now (with_pending id.conv (Some (left_waiting id.index hook draft (Some edited))) pending)
+  at_release : (course made : Course S) (trace next : Trace) (now : AnswererState S) (pending : Pending) (operation : Operation) (id : FlowId) (hook : Hook) (draft : Draft) (edited : Option Edited) →
       Answers answers due course trace now pending → made ≡ with_operation course trace operation → answers_for operation ≡ Some id →
-      pending.given id.conv ≡ Some (record { ask = asks.Hook id.index hook; answer = answer.Wait draft }) →
-      next ≡ trace ++ steps.Answered id.conv (asks.Hook id.index hook) (released_by operation draft) ∷ [] →
+      pending.given id.conv ≡ Some (left_waiting id.index hook draft edited) →
+      next ≡ trace ++ steps.Answered id.conv (asks.Hook id.index hook) (released_by operation (with_edits edited draft)) ∷ [] →
       Answers answers due made next now (with_pending id.conv None pending)
 
 -- It came over the whole trace, with the first changes of the course.
@@ -118,7 +134,7 @@ pub record RestsBy {S : Type 0} (answers : Answering S) (due : Due) (course : Co
   pub now : AnswererState S
   pub pending : Pending
   pub answered : Answers answers due made trace now pending
-  pub waits : (conv : ℕ) (ask : Ask) → open_hook conv trace ≡ Some ask → (draft : Draft) × (pending.given conv ≡ Some (record { ask = ask; answer = answer.Wait draft }))
+  pub waits : (conv : ℕ) (ask : Ask) → open_hook conv trace ≡ Some ask → (draft : Draft) × (edited : Option Edited) × (pending.given conv ≡ Some (record { ask = ask; answer = answer.Wait draft; edited = edited }))
 
 -- What files mean at the end of a trace that came by this course. All that was answered stands in the trace, all changes were made, and the
 -- files are what the last answer or change left; or, where that is not said, behind some prefix of the trace more was answered than the

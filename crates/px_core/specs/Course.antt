@@ -1,7 +1,7 @@
 -- What changes the state of an answerer, and what files mean, beside its answers; and what an operator did to flows.
 --
 -- Between two steps something else may change what an answerer answers by: what finished is put at a file's end, or an addon is taken away. And an
--- operator may mark a flow, or let one go on or kill one that waits. A course says where the answerer began, each such change in its order and each
+-- operator may mark a flow, or change, let go on or kill one that waits. A course says where the answerer began, each such change in its order and each
 -- such operation in its order, with the trace behind which it was made.
 use Rattle.std.specs.Prelude.{◌≡◌, ◌==◌, ◌&&◌, ℕ, Bool, false, List, [], ◌∷◌, ◌++◌}
 use Rattle.std.specs.List.{list_any}

@@ -52,14 +52,14 @@ pub record IsAskedLast (due : Due) (trace : Trace) (conv : ℕ) (ask : Ask) (flo
   pub last : all_unmarked (due_in due flows conv trace) ≡ earlier ++ about ask (unmarked flow) ∷ []
 
 -- An answer after this trace comes from one that the answerer may give to the hook about the flow with which it was asked last: it is that
--- one, or what an operator made of the draft with which the hook waits.
+-- one, or what an operator made of the draft with which the hook waits, by changes of its flow or by ending it.
 pub record IsMet {S : Type 0} (answers : Answering S) (due : Due) (trace : Trace) (conv : ℕ) (ask : Ask) (reply : Reply) : Type 0 where
   pub hook : Hook
   pub flow : Flow
   pub asked : ask ≡ asks.Hook flow.id.index hook
   pub last : IsAskedLast due trace conv ask flow
   pub given : Answer
-  pub comes : ComesTo given reply
+  pub comes : ComesTo hook given reply
   pub old : S
   pub old_files : FilesMeaning
   pub new : S

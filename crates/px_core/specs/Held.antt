@@ -1,5 +1,5 @@
 -- What a held conversation is in a trace, within a step and at its end.
-use Rattle.std.specs.Prelude.{◌≡◌, ℕ, ◌≢◌, ◌+◌, ◌==◌, ◌||◌, Bool, true, false, List, [], ◌∷◌, ◌++◌, map, Option, Some, None, IsSome, option_to_list, ◌⊎◌}
+use Rattle.std.specs.Prelude.{◌≡◌, ℕ, ◌≢◌, ◌+◌, ◌==◌, ◌||◌, Bool, true, false, List, [], ◌∷◌, ◌++◌, map, Option, Some, None, IsSome, option_to_list, ◌⊎◌, Ok, Err}
 use Rattle.std.specs.List.{flat_map}
 use Rattle.px_message.specs.declared.address.Address.{Address}
 use Rattle.px_message.specs.declared.flow.Flow.{Flow}
@@ -24,6 +24,7 @@ use Rattle.px_core.specs.declared.answerer.Draft.{Draft}
 use Rattle.px_core.specs.declared.flows.Flows.{Flows}
 use Rattle.px_core.specs.declared.held.Held.{Held}
 use Rattle.px_core.specs.declared.held.Question.{Question}
+use Rattle.px_core.specs.declared.waiting.Waiting.{Waiting}
 use Rattle.px_core.specs.declared.operation.Operation.{Operation}
 use Rattle.px_core.specs.Answered.{GivenTo, Pending, IsMarkedBy, IsNoAnswer, Answers, shown_behind, with_shown}
 use Rattle.px_core.specs.Answers.{Answering, AnswererState}
@@ -32,12 +33,17 @@ use Rattle.px_core.specs.declared.news.News.{News}
 use Rattle.px_core.specs.declared.news.News.TheVariants as news
 use Rattle.px_core.specs.Calls.{calls, calls_of, addressed, is_connected}
 use Rattle.px_core.specs.Conversation.{AllNamed}
-use Rattle.px_core.specs.Drafts.{answers_for}
+use Rattle.px_core.specs.Drafts.{answers_for, edited_at}
 use Rattle.px_core.specs.Due.{Due, IsAskedLast, Waits, IsServed}
 use Rattle.px_core.specs.Hooks.{open_hook, hook_of, AsksInTurn}
 use Rattle.px_core.specs.Live.{shown_in}
 use Rattle.px_core.specs.Runs.{has}
 use Rattle.px_core.specs.Unmarked.{all_marked, none_marked}
+use Rattle.px_draft.specs.declared.edit.Edit.{Edit}
+use Rattle.px_draft.specs.declared.edited.Edited.{Edited}
+use Rattle.px_draft.specs.declared.error.EditError.{EditError}
+use Rattle.px_draft.specs.declared.error.EditError.TheVariants as errors
+use Rattle.px_draft.specs.Edits.{changed, changed_by, fresh}
 
 -- whether a side is connected, by the test which servers are
 abbrev pub is_side : Side → (ℕ → Bool) → Bool
@@ -127,11 +133,14 @@ abbrev pub IsAbout : Due → ℕ → Trace → Option Question → Type 0
 IsAbout due conv trace None = Unit {0}
 IsAbout due conv trace (Some question) = IsAskedLast due trace conv question.ask question.flow
 
--- the draft that is kept of a hook that waits is the one that the answerer gave
-pub record IsKept {S : Type 0} (answers : Answering S) (due : Due) (trace : Trace) (conv : ℕ) (ask : Ask) (kept : Option Draft) : Type 0 where
+-- the draft that is kept of a hook that waits is the one that the answerer gave, and what lines made of it was made by changes
+pub record IsKept {S : Type 0} (answers : Answering S) (due : Due) (trace : Trace) (conv : ℕ) (ask : Ask) (kept : Option Waiting) : Type 0 where
   pub draft : Draft
-  pub is : kept ≡ Some draft
+  pub edited : Option Edited
+  pub is : kept ≡ Some (record { draft = draft; edited = edited })
   pub waits : Waits answers due trace conv ask draft
+  pub changes : List Edit
+  pub made : edited_at waits.hook draft edited ≡ changed_by changes (fresh waits.hook draft.flow)
 
 -- of a hook that is awaited the answerer's draft is kept
 abbrev pub IsDrafted : {C S : Type 0} → (C → Option Ask) → Answering S → Due → ℕ → Held C → Trace → Type 0
@@ -147,10 +156,28 @@ IsDraftedBut awaited answers due conv held trace (Some question) = Unit {0}
 abbrev pub IsDraftedBehind : {C S : Type 0} → (C → Option Ask) → Answering S → Due → ℕ → Held C → Trace → List Command → Type 0
 IsDraftedBehind awaited answers due conv held trace rest = flat_map asks_in rest ≡ [] → IsDrafted awaited answers due conv held trace
 
--- of a hook that is open and waits, what the answerer gave
-abbrev pub waiting : Option Ask → Option Draft → Option GivenTo
-waiting (Some ask) (Some draft) = Some (record { ask = ask; answer = answer.Wait draft })
+-- of a hook that is open and waits, what the answerer gave, with what lines made of it
+abbrev pub waiting : Option Ask → Option Waiting → Option GivenTo
+waiting (Some ask) (Some kept) = Some (record { ask = ask; answer = answer.Wait kept.draft; edited = kept.edited })
 waiting _ _ = None
+
+-- lines made this of a draft that waits at a hook, by one change more
+pub record IsChanged (hook : Hook) (change : Edit) (before after : Waiting) : Type 0 where
+  pub edited : Edited
+  pub changes : changed change (edited_at hook before.draft before.edited) ≡ Ok edited
+  pub now : after ≡ record { draft = before.draft; edited = Some edited }
+
+-- why it was not changed: memory ran out, or the change is refused
+abbrev pub IsUnchanged : Hook → Edit → Waiting → EditError → Type 0
+IsUnchanged hook change kept error = (error ≡ errors.NoMemory) ⊎ (changed change (edited_at hook kept.draft kept.edited) ≡ Err error)
+
+-- the draft that is kept is changed so, and nothing else of what is held changes
+pub record IsEdit {C : Type 0} (hook : Hook) (change : Edit) (before after : Held C) : Type 0 where
+  pub kept : Waiting
+  pub new_kept : Waiting
+  pub was : before.draft ≡ Some kept
+  pub changes : IsChanged hook change kept new_kept
+  pub now : after ≡ record before { draft = Some new_kept }
 
 -- of these steps none asks a hook or answers one
 abbrev pub NoneAnswers : List Step → Type 0
@@ -160,7 +187,7 @@ NoneAnswers (step ∷ rest) = IsNoAnswer step × NoneAnswers rest
 -- what is kept of a conversation beside its state: the draft of its hook if that waits, which of its flows have a mark, by their indices,
 -- and what each of its live flows was when it was asked about last
 pub record Kept : Type 0 where
-  pub draft : Option Draft
+  pub draft : Option Waiting
   pub marks : ℕ → Bool
   pub shown : ℕ → Option Flow
 

@@ -55,7 +55,7 @@ pub record IsOfKind (gives : Hook → Flow → Answer → Type 0) (due : Due) (t
   pub last : IsAskedLast due prefix conv ask flow
   pub gives_so : gives hook flow given
 
--- where the trace ends with an answer, it comes from such a one: it is that one, or what an operator made of the draft with which the hook waited
+-- where the trace ends with an answer, it comes from such a one: it is that one, or what an operator made of the draft with which the hook waited, by changes of its flow or by ending it
 abbrev pub EndsOfKind : (Hook → Flow → Answer → Type 0) → Due → Trace → Type 0
 EndsOfKind gives due trace = (prefix : Trace) (conv : ℕ) (ask : Ask) (reply : Reply) →
-    trace ≡ prefix ++ steps.Answered conv ask reply ∷ [] → (given : Answer) × ComesTo given reply × IsOfKind gives due prefix conv ask given
+    trace ≡ prefix ++ steps.Answered conv ask reply ∷ [] → (given : Answer) × (kind : IsOfKind gives due prefix conv ask given) × ComesTo kind.hook given reply

@@ -1,11 +1,12 @@
 -- What a router stands for, and what its calls do.
-use Rattle.std.specs.Prelude.{◌≡◌, ◌≢◌, ℕ, ◌^◌, ◌-◌, Bool, true, false, if◌then◌else◌, ◌&&◌, ◌||◌, ◌==◌, is_some, min, List, [], ◌∷◌, ◌++◌, Option, Some, None}
+use Rattle.std.specs.Prelude.{◌≡◌, ◌≢◌, ℕ, ◌^◌, ◌-◌, Bool, true, false, if◌then◌else◌, ◌&&◌, ◌||◌, ◌==◌, is_some, min, List, [], ◌∷◌, ◌++◌, Option, Some, None, Result, Ok, Err}
 use Rattle.std.specs.Ordering.{nat_cmp}
 use Rattle.std.specs.BTreeMap as tree
 use Rattle.std.specs.Str.{is_utf8}
 use Rattle.slab.specs.Slab as slab
 use Rattle.px_message.specs.declared.address.Address.{Address}
 use Rattle.px_event.specs.declared.ask.Ask.{Ask}
+use Rattle.px_event.specs.declared.ask.Ask.TheVariants as asks
 use Rattle.px_event.specs.declared.ask.Hook.{Hook}
 use Rattle.px_event.specs.declared.command.Command.{Command}
 use Rattle.px_event.specs.declared.heard.Heard.{Heard}
@@ -14,6 +15,8 @@ use Rattle.px_event.specs.declared.step.Step.TheVariants as steps
 use Rattle.px_event.specs.Layer.{Move, Standing, IsSound}
 use Rattle.px_event.specs.Trace.{Trace}
 use Rattle.px_event.specs.View.{View, IsTold, seen_of, seen_in}
+use Rattle.px_core.specs.declared.answerer.Answer.{Answer}
+use Rattle.px_core.specs.declared.answerer.Answer.TheVariants as answer
 use Rattle.px_core.specs.declared.answerer.Draft.{Draft}
 use Rattle.px_core.specs.declared.held.Held.{Held}
 use Rattle.px_core.specs.declared.operation.Operation.{Operation}
@@ -25,18 +28,25 @@ use Rattle.px_core.specs.declared.news.News.TheVariants as news
 use Rattle.px_core.specs.declared.table.Entry.{Entry}
 use Rattle.px_core.specs.declared.table.Entry.TheVariants as place
 use Rattle.px_core.specs.declared.router.Router.{Router}
+use Rattle.px_core.specs.declared.waiting.Waiting.{Waiting}
 use Rattle.px_core.specs.declared.table.Conversations.{Conversations}
 use Rattle.px_core.specs.Addons.{has_name}
-use Rattle.px_core.specs.Answered.{Pending, Answers}
+use Rattle.px_core.specs.Answered.{GivenTo, Pending, Answers}
 use Rattle.px_core.specs.Answers.{Answering, AnswererState, ByAnswers, FilesMeaning}
 use Rattle.px_core.specs.Course.{Course, Operated, is_marked, with_change, with_operation}
 use Rattle.px_core.specs.Calls.{calls, calls_of, addressed}
+use Rattle.px_core.specs.Drafts.{edited_at}
 use Rattle.px_core.specs.Due.{Due, due_in, IsServed}
-use Rattle.px_core.specs.Held.{AllOf, IsReleased, IsSettled, IsDrafted, waiting, Within, Hears, Releases}
+use Rattle.px_core.specs.Held.{AllOf, IsEdit, IsReleased, IsSettled, IsDrafted, waiting, Within, Hears, Releases}
 use Rattle.px_core.specs.Hooks.{open_hook}
 use Rattle.px_core.specs.Live.{hook_in, is_live, shown_in, waiting_hook}
 use Rattle.px_core.specs.Runs.{has}
 use Rattle.px_core.specs.Unmarked.{all_unmarked}
+use Rattle.px_draft.specs.declared.edit.Edit.{Edit}
+use Rattle.px_draft.specs.declared.edited.Edited.{Edited}
+use Rattle.px_draft.specs.declared.error.EditError.{EditError}
+use Rattle.px_draft.specs.declared.error.EditError.TheVariants as unchanged
+use Rattle.px_draft.specs.Edits.{changed}
 
 -- what a router has under a number: nothing was admitted, the conversation has ended, or it is live. A number whose
 -- conversation is nowhere is lost; no router has one.
@@ -82,8 +92,13 @@ abbrev pub kept_in : {C : Type 0} → (C → ℕ) → Found (Held C) → ℕ
 kept_in kept (live held) = min (kept held.conversation) (2 ^ 64 - 1)
 kept_in kept _ = 0
 
+-- whether it is live, and keeps no body
+abbrev pub keeps_no_body : {C : Type 0} → (C → Bool) → Found (Held C) → Bool
+keeps_no_body no_body (live held) = no_body held.conversation
+keeps_no_body no_body _ = false
+
 -- the draft that is kept of it
-abbrev pub draft_of : {C : Type 0} → Found (Held C) → Option Draft
+abbrev pub draft_of : {C : Type 0} → Found (Held C) → Option Waiting
 draft_of (live held) = held.draft
 draft_of _ = None
 
@@ -130,17 +145,47 @@ refusal_at false waits = Some refused.NoSuchFlow
 refusal_at true false = Some refused.NotWaiting
 refusal_at true true = None
 
--- Why an operation is refused behind a trace, by the names of the answerer's addons, if it is.
-abbrev pub refusal : Operation → List (List ℕ) → Trace → Option OperateError
-refusal (operations.Resume id) names trace = refusal_at (is_live id trace) (is_some (waiting_hook id trace))
-refusal (operations.Kill id) names trace = refusal_at (is_live id trace) (is_some (waiting_hook id trace))
-refusal (operations.Mark id) names trace = refusal_at (is_live id trace) true
-refusal (operations.DropAddon name) names trace = if is_utf8 name && has_name name names then None else Some refused.NoSuchAddon
+-- the refusal of a change, by what becomes of the draft
+abbrev pub refusal_of : Result Edited EditError → Option OperateError
+refusal_of (Ok edited) = None
+refusal_of (Err unchanged.NotThere) = Some refused.NotThere
+refusal_of (Err unchanged.BadValue) = Some refused.BadValue
+refusal_of (Err unchanged.NoMemory) = Some refused.NoMemory
+
+-- at a hook, with what was given to it and what lines made of that; where no draft waits there is none to be changed
+abbrev pub change_refusal : Edit → Ask → Answer → Option Edited → Option OperateError
+change_refusal change (asks.Hook index hook) (answer.Wait draft) edited = refusal_of (changed change (edited_at hook draft edited))
+change_refusal change ask what edited = Some refused.NotWaiting
+
+abbrev pub refusal_in : Edit → Option GivenTo → Option OperateError
+refusal_in change None = Some refused.NotWaiting
+refusal_in change (Some given) = change_refusal change given.ask given.answer given.edited
+
+-- the first refusal, or else the second
+abbrev pub refusal_or : Option OperateError → Option OperateError → Option OperateError
+refusal_or None second = second
+refusal_or (Some first) second = Some first
+
+-- Why an operation is refused behind a trace, by the names of the answerer's addons and by what is pending in the conversations, if it is.
+abbrev pub refusal : Operation → List (List ℕ) → (ℕ → Option GivenTo) → Trace → Option OperateError
+refusal (operations.Resume id) names given trace = refusal_at (is_live id trace) (is_some (waiting_hook id trace))
+refusal (operations.Kill id) names given trace = refusal_at (is_live id trace) (is_some (waiting_hook id trace))
+refusal (operations.Edit id change) names given trace = refusal_or (refusal_at (is_live id trace) (is_some (waiting_hook id trace))) (refusal_in change (given id.conv))
+refusal (operations.Mark id) names given trace = refusal_at (is_live id trace) true
+refusal (operations.DropAddon name) names given trace = if is_utf8 name && has_name name names then None else Some refused.NoSuchAddon
+
+-- So an operation is judged behind a trace over which the answerer came by a course to what it is now: refused for this, or done.
+pub record IsJudged {S : Type 0} (answers : Answering S) (due : Due) (course : Course S) (now : AnswererState S) (names : List (List ℕ)) (trace : Trace) (operation : Operation)
+    (outcome : Option OperateError) : Type 0 where
+  pub pending : Pending
+  pub answered : Answers answers due course trace now pending
+  pub is : refusal operation names pending.given trace ≡ outcome
 
 -- the conversation of the flow that it is on
 abbrev pub conv_of : Operation → Option ℕ
 conv_of (operations.Resume id) = Some id.conv
 conv_of (operations.Kill id) = Some id.conv
+conv_of (operations.Edit id change) = Some id.conv
 conv_of (operations.Mark id) = Some id.conv
 conv_of (operations.DropAddon name) = None
 
@@ -174,6 +219,14 @@ pub record MarksAt {C : Type 0} (key index : ℕ) (held : Held C) (before after 
   pub connected : new_held.connected ≡ held.connected
   pub draft : new_held.draft ≡ held.draft
   pub marks : (other : ℕ) → has new_held.marks other ≡ ((index == other) || has held.marks other)
+
+-- The draft with which the conversation under a key waits, at this hook, is changed, and nothing else changes.
+pub record EditsAt {C : Type 0} (key : ℕ) (hook : Hook) (change : Edit) (held : Held C) (before after : Conversations C) : Type 0 where
+  pub new_held : Held C
+  pub live_now : slab.Updates before.live after.live key (Some new_held)
+  pub places : (other : ℕ) → place_of after other ≡ place_of before other
+  pub flows : after.flows ≡ before.flows
+  pub edits : IsEdit hook change held new_held
 
 -- these steps are of that conversation, and there are none where there is none
 abbrev pub AllOfAny : Option ℕ → List Step → Type 0

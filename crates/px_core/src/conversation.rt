@@ -4,7 +4,7 @@
 //! of its calls, each an event that it took or a reply that it was given, and for the commands that it gave, as a
 //! layer's does. What it adds to a layer: its number, which is that of the flows it names; an event may come while
 //! something is awaited; and an answer that is not awaited changes nothing.
-ghost use Rattle.std.specs.Prelude.{◌≡◌, ◌≢◌, ◌+◌, ◌-◌, ◌*◌, ◌^◌, ◌<◌, ◌≤◌, ℕ, Bool, List, Some, Option, IsOk, OnOk, min};
+ghost use Rattle.std.specs.Prelude.{◌≡◌, ◌≢◌, ◌+◌, ◌-◌, ◌*◌, ◌^◌, ◌<◌, ◌≤◌, ℕ, Bool, true, List, Some, Option, IsOk, OnOk, min};
 ghost use Rattle.px_event.specs.Layer.{Move, Took, Replied, IsSound, Goes, AsksOnly, IsNews, weight};
 ghost use Rattle.px_event.specs.declared.command.Command.{Command as GivenCommand};
 ghost use Rattle.px_event.specs.declared.ask.Ask.{Ask as AwaitedAsk};
@@ -34,6 +34,9 @@ pub trait Conversation: Drop {
     /// The number of bytes that the state keeps, as a layer's.
     ghost kept: { Self → ℕ };
 
+    /// Whether it keeps no message's body, and awaits nothing.
+    ghost keeps_no_body: { Self → Bool };
+
     /// Whether nothing more will come of it.
     ghost ended: { Self → Bool };
 
@@ -58,9 +61,10 @@ pub trait Conversation: Drop {
     fn waiting(&self) -> Option<Ask>
         ensures { result ≡ awaited self.now };
 
-    /// How many bytes it keeps, or 2^64 - 1 where that is more.
+    /// How many bytes it keeps, or 2^64 - 1 where that is more: at most twice 65,536 + 1,024 where it keeps no body.
     fn kept(&self) -> usize
-        ensures { result ≡ min (kept self.now) (2 ^ 64 - 1) };
+        ensures kept { result ≡ min (kept self.now) (2 ^ 64 - 1) }
+        ensures bound { IsSound stands self.now → keeps_no_body self.now ≡ true → kept self.now ≤ 133120 };
 
     /// Whether nothing more will come of it.
     fn ended(&self) -> bool

@@ -27,6 +27,8 @@ impl<L: Numbered> Conversation for Gate<L> {
 
     ghost kept = { λ gate. L.kept gate.layer };
 
+    ghost keeps_no_body = { λ gate. L.keeps_no_body gate.layer };
+
     ghost ended = { λ gate. L.ended gate.layer };
 
     fn take(&mut self, moment: u64, event: Event, out: &mut Vec<Command>) -> Result<(), NoMemory> {

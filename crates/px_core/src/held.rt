@@ -3,15 +3,15 @@
 //! Within a step the trace lags behind the conversation: it gave commands that are not told yet. So `Within` says where it
 //! stands with the commands that are still to be told, and each step that is told takes one of them. An answer stands in
 //! the trace before what it causes; so each prefix of the steps has no more than is due by the calls in that prefix.
-ghost use Rattle.std.specs.Prelude.{◌≡◌, ◌<◌, true, ◌++◌, ◌∷◌, [], ℕ, None, Some, OnOk, IfOk, map};
+ghost use Rattle.std.specs.Prelude.{◌≡◌, ◌<◌, true, ◌++◌, ◌∷◌, [], ℕ, None, Some, IsSome, OnOk, OnErr, IfOk, IfErr, map};
 ghost use Rattle.px_event.specs.Layer.{IsSound, IsNews, MayAnswer, Took, Replied};
 ghost use Rattle.px_event.specs.declared.ask.Ask.TheVariants.{Hook as AsksHook, Dial as AsksDial};
 ghost use Rattle.px_core.specs.Answers.{ByAnswers, FilesAfter, files_meaning, state_of};
 ghost use Rattle.px_core.specs.Calls.{dial_reply, is_dialling};
 ghost use Rattle.px_core.specs.Conversation.{AllNamed};
 ghost use Rattle.px_core.specs.Answered.{with_shown};
-ghost use Rattle.px_core.specs.Drafts.{released_by};
-ghost use Rattle.px_core.specs.Held.{is_side, servers_by, step_of, question_about, question_by, question_in, asked_from, dial_of, shown_by, Replies, Gives, Works, Takes, Hears, Releases, ShowsTold, IsHeardNews, IsReleased, Asks, IsNext, IsReady, IsSettled, turns_left};
+ghost use Rattle.px_core.specs.Drafts.{released_by, reply_of, with_edits};
+ghost use Rattle.px_core.specs.Held.{is_side, servers_by, step_of, question_about, question_by, question_in, asked_from, dial_of, shown_by, Replies, Gives, Works, Takes, Hears, Releases, ShowsTold, IsHeardNews, IsEdit, IsReleased, IsUnchanged, Asks, IsNext, IsReady, IsSettled, turns_left};
 ghost use Rattle.px_core.specs.Live.{shown_in};
 ghost use Rattle.px_core.specs.Runs.{has};
 ghost use Rattle.px_core.specs.Unmarked.{all_marked, mark_on, with_mark};
@@ -19,20 +19,22 @@ ghost use Rattle.px_core.specs.Unmarked.{all_marked, mark_on, with_mark};
 use crate::flows::Flows;
 use crate::news::News;
 use crate::runs::Runs;
-use crate::{Answer, Answerer, Draft, Operation, Owes};
+use crate::waiting::Waiting;
+use crate::{Answer, Answerer, Operation, Owes};
+use px_draft::{Edit, EditError};
 use px_event::{Ask, Command, Event, Hook, Reply, Said, Side, Step};
 use px_message::{Fault, Flow};
 use px_outside::Files;
 use px_text::NoMemory;
 use std::alloc::Global;
 
-/// A live conversation, the numbers of the servers that are connected, the draft of its hook if that waits, and the indices of its flows that an
-/// operator marked.
+/// A live conversation, the numbers of the servers that are connected, the draft of its hook if that waits, with what lines made of it, and the indices
+/// of its flows that an operator marked.
 #[derive(Drop)]
 pub struct Held<C> {
     pub(crate) conversation: C,
     pub(crate) connected: Runs,
-    pub(crate) draft: Option<Draft>,
+    pub(crate) draft: Option<Waiting>,
     pub(crate) marks: Runs,
 }
 
@@ -257,9 +259,22 @@ impl<C: Owes> Held<C> {
         let (Some(ask), Some(draft)) = (self.conversation.waiting(), self.draft.take()) else {
             unreachable!()
         };
-        let reply = released_by(operation, draft);
+        let reply = released_by(call.alloc, operation, draft)?;
         let open = self.reply(call, ask, reply, flows, steps)?;
         self.answer_all(call, open, answerer, files, flows, steps)
+    }
+
+    /// Changes the draft with which its hook waits, which is this one. After a refusal nothing has changed.
+    pub(crate) fn edit(&mut self, alloc: Global, hook: Hook, change: &Edit) -> Result<(), EditError>
+        requires waits { IsSome self.old.draft }
+        ensures edits { OnOk result (IsEdit hook change.now self.old self.new) }
+        ensures refused { (kept : _) → self.old.draft ≡ Some kept → IfErr result (IsUnchanged hook change.now kept) }
+        ensures unchanged { OnErr result (self.new ≡ self.old) }
+    {
+        let Some(draft) = &mut self.draft else {
+            unreachable!()
+        };
+        draft.change(alloc, hook, change)
     }
 
     /// Answers hooks until none is open or one waits.
@@ -311,7 +326,7 @@ impl<C: Owes> Held<C> {
         let Question { ask, hook, flow } = question;
         match answerer.answer(hook, flow, files)? {
             Answer::Wait(draft) => {
-                self.draft = Some(draft);
+                self.draft = Some(Waiting::new(draft));
                 Ok(None)
             }
             Answer::Reply(reply) => self.reply(call, ask, reply, flows, steps),
@@ -361,16 +376,27 @@ fn end_of_dial(ok: bool) -> Reply
     }
 }
 
-/// With what an operator answers a hook that waits with this draft.
-fn released_by(operation: &Operation, draft: Draft) -> Reply
-    ensures { result ≡ released_by operation.now draft }
+/// With what an operator answers a hook that waits with this draft, as lines left it.
+fn released_by(alloc: Global, operation: &Operation, draft: Waiting) -> Result<Reply, NoMemory>
+    ensures { IfOk result (λ reply. reply ≡ released_by operation.now (with_edits draft.edited draft.draft)) }
 {
     match operation {
         Operation::Kill(_) => {
             drop(draft);
-            Reply::Kill
+            Ok(Reply::Kill)
         }
-        Operation::Resume(_) | Operation::Mark(_) | Operation::DropAddon(_) => draft.into_reply(),
+        Operation::Resume(_) | Operation::Edit(..) | Operation::Mark(_) | Operation::DropAddon(_) =>
+            reply_with(alloc, draft),
+    }
+}
+
+/// The reply that a draft is, as lines left it.
+fn reply_with(alloc: Global, draft: Waiting) -> Result<Reply, NoMemory>
+    ensures { IfOk result (λ reply. reply ≡ reply_of (with_edits draft.edited draft.draft)) }
+{
+    match draft.into_draft(alloc) {
+        Ok(draft) => Ok(draft.into_reply()),
+        Err(NoMemory) => Err(NoMemory),
     }
 }
 

@@ -13,6 +13,9 @@
 //! And what holds of each answer from states of one property holds of each reply in the trace, for the flow with which its hook
 //! was asked (`specs/Kind.antt`).
 //!
+//! An operator may let a hook that waits go on, or kill its flow, and change its draft before: each change is one of px_draft's, made of what those before it left. What
+//! the changes made is the flow of the reply, and it is one function of them and of the draft that the answerer gave (`specs/Answered.antt`, `at_edit`).
+//!
 //! An answerer may have addons, each with a name (`specs/Addons.antt`). `drop_addon` takes the first of a name away, and leaves the
 //! others as they are; what that makes of its state is its own relation, as its answers are.
 //!
@@ -39,6 +42,7 @@ mod owes;
 mod router;
 mod runs;
 mod table;
+mod waiting;
 mod work;
 
 pub use alone::begin_alone;

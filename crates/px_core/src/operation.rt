@@ -1,5 +1,6 @@
 //! What an operator does to flows and addons while they are live.
 
+use px_draft::Edit;
 use px_message::FlowId;
 use px_text::{Bytes, NoMemory};
 
@@ -10,6 +11,8 @@ pub enum Operation {
     Resume(FlowId),
     /// The flow, which waits, ends.
     Kill(FlowId),
+    /// The draft with which the flow waits is changed.
+    Edit(FlowId, Edit),
     /// The flow gets its mark.
     Mark(FlowId),
     /// The first addon of this name is taken away.
@@ -23,6 +26,10 @@ pub enum OperateError {
     NoSuchFlow,
     /// The flow is live, and no hook of it waits.
     NotWaiting,
+    /// The hook of the flow that waits is about something else, or nothing stands that `more` goes on with.
+    NotThere,
+    /// A word of the change is none of its kind.
+    BadValue,
     /// No addon has the name.
     NoSuchAddon,
     /// Memory ran out.

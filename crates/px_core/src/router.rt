@@ -8,7 +8,7 @@
 //! neighbours. No call walks over the conversations.
 //!
 //! Steps are given to the caller once the whole call has succeeded. A router in which memory ran out answers so for ever.
-ghost use Rattle.std.specs.Prelude.{◌≡◌, ◌≢◌, ◌&&◌, ℕ, List, is_some, Some, None, Err, IsErr, IsSome, true, false, [], IfOk, IfErr, IfSome, OnOk, OnErr};
+ghost use Rattle.std.specs.Prelude.{◌≡◌, ◌≢◌, ◌≤◌, ◌&&◌, ℕ, List, is_some, Some, None, Err, IsErr, IsSome, true, false, [], IfOk, IfErr, IfSome, OnOk, OnErr};
 ghost use Rattle.px_message.specs.declared.address.Address.{Address as PeerAddress};
 ghost use Rattle.px_core.specs.Answers.{ByAnswers, FilesAfter, FilesMeaning, files_meaning, state_of};
 ghost use Rattle.px_core.specs.Due.{Due};
@@ -17,12 +17,13 @@ ghost use Rattle.px_core.specs.Addons.{has_name, without_first};
 ghost use Rattle.px_core.specs.Answers.{AnswererState};
 ghost use Rattle.px_core.specs.Calls.{calls};
 ghost use Rattle.px_core.specs.Course.{Course, begins_at};
-ghost use Rattle.px_core.specs.Drafts.{answers_for};
+ghost use Rattle.px_core.specs.Drafts.{answers_for, edited_at};
 ghost use Rattle.px_core.specs.Held.{IsReleased};
 ghost use Rattle.px_core.specs.Live.{AreLive, IsLastAsked, hook_in, is_live, shown_in, waiting_hook};
-ghost use Rattle.px_core.specs.Router.{found, hook_at, place_of, refusal, refusal_at, HoldsNoEnded, is_known, kept_in, AwaitsFor, IsTabled, RouterStands, IsRouted, IsRefused, MovesBy, IsAtKey, HearsAt, Hands, Admits, MarksAt, Operates, ReleasesAt, Routes, BeginsNone};
+ghost use Rattle.px_core.specs.Router.{found, hook_at, place_of, refusal_at, refusal_of, EditsAt, HoldsNoEnded, IsJudged, is_known, keeps_no_body, kept_in, AwaitsFor, IsTabled, TableStands, RouterStands, IsRouted, IsRefused, MovesBy, IsAtKey, HearsAt, Hands, Admits, MarksAt, Operates, ReleasesAt, Routes, BeginsNone};
 ghost use Rattle.px_core.specs.declared.operation.OperateError.TheVariants.{NoMemory as RanOut, NoSuchAddon as NoneSuch};
-ghost use Rattle.px_core.specs.declared.operation.Operation.TheVariants.{DropAddon as Drops, Mark as Marks};
+ghost use Rattle.px_core.specs.declared.operation.Operation.TheVariants.{DropAddon as Drops, Edit as Edits, Mark as Marks};
+ghost use Rattle.px_draft.specs.Edits.{changed};
 ghost use Rattle.px_event.specs.declared.step.Step.{Step as GivenStep};
 ghost use Rattle.px_message.specs.declared.flow.FlowId.{FlowId as FlowIdOf};
 ghost use Rattle.slab.specs.Slab.{get as held_under};
@@ -35,6 +36,7 @@ use crate::news::{News, news_of};
 use crate::runs::Runs;
 use crate::table::{Conversations, Entry};
 use crate::{Answerer, NoSuchAddon, OperateError, Operation, Owes};
+use px_draft::{Edit, EditError};
 use px_event::{Ask, Event, Heard, Hook, Step};
 use px_message::{Flow, FlowId};
 use px_outside::Files;
@@ -76,9 +78,12 @@ impl<C: Owes, A: Answerer> Router<C, A> {
         self.table.place(conv).is_some()
     }
 
-    /// How many bytes the conversation keeps; 0 where it is unknown or has ended.
+    /// How many bytes the conversation keeps; 0 where it is unknown or has ended. One that keeps no body keeps at most twice 65,536 + 1,024,
+    /// whatever was heard and however long its messages are.
     pub fn kept(&self, conv: u32) -> usize
-        ensures { result ≡ kept_in C.kept (found self.now.table conv) }
+        ensures kept { result ≡ kept_in C.kept (found self.now.table conv) }
+        ensures bound { (due : Due) (course : Course A.State) (files : FilesMeaning) (trace : Trace) → RouterStands C.stands C.awaited C.number C.due A.answers A.state due course files self.now trace →
+            keeps_no_body C.keeps_no_body (found self.now.table conv) ≡ true → result ≤ 133120 }
     {
         match self.table.place(conv) {
             Some(Entry::Live(key)) => match self.table.live.get(key) {
@@ -161,12 +166,12 @@ impl<C: Owes, A: Answerer> Router<C, A> {
 
     /// Does what an operator asks for, at the moment of what was heard last, in microseconds since 1970.
     ///
-    /// A resume or a kill answers the hook of its flow that waits: with the draft with which it waits, or with `Kill`; what follows is worked off
-    /// as of something heard, and its steps are added. A mark stands in the flow from when it is asked about next, or is finished. An addon that is
+    /// A resume or a kill answers the hook of its flow that waits: with the draft with which it waits, as edits left it, or with `Kill`; what follows is worked off
+    /// as of something heard, and its steps are added. An edit changes that draft, and nothing else: it shows in the reply alone. A mark stands in the flow from when it is asked about next, or is finished. An addon that is
     /// dropped is the first of its name.
     ///
-    /// `NoSuchFlow` exactly where no hook of the flow was asked or it is finished; `NotWaiting`, at a resume or a kill, exactly where it is live
-    /// and no hook of it waits; `NoSuchAddon` exactly where no addon has the name, as none has one that is no UTF-8. After these three nothing has
+    /// `NoSuchFlow` exactly where no hook of the flow was asked or it is finished; `NotWaiting`, at a resume, a kill or an edit, exactly where it is live
+    /// and no hook of it waits; behind these, at an edit, `NotThere` and `BadValue` exactly where the draft refuses the change so; `NoSuchAddon` exactly where no addon has the name, as none has one that is no UTF-8. After these nothing has
     /// changed. After `NoMemory` the router answers so for ever, and no step was added.
     pub fn operate<F: Files>(
         &mut self,
@@ -180,9 +185,9 @@ impl<C: Owes, A: Answerer> Router<C, A> {
         ensures names { (name : List ℕ) → operation.now ≡ Drops name → OnOk result (A.names (A.state self.new.answerer) ≡ without_first name (A.names (A.state self.old.answerer))) }
         ensures moves { OnOk result (MovesBy A.answers A.drops operation.now (state_of A.state F.contents F.calls F.misses F.faults F.losses self.old.answerer files.old) (state_of A.state F.contents F.calls F.misses F.faults F.losses self.new.answerer files.new)) }
         ensures done { (due : Due) (course : Course A.State) (trace : Trace) → RouterStands C.stands C.awaited C.number C.due A.answers A.state due course (files_meaning F.contents F.calls F.misses F.faults F.losses files.old) self.old trace →
-            OnOk result (refusal operation.now (A.names (A.state self.old.answerer)) trace ≡ None) }
+            OnOk result (IsJudged A.answers due course (state_of A.state F.contents F.calls F.misses F.faults F.losses self.old.answerer files.old) (A.names (A.state self.old.answerer)) trace operation.now None) }
         ensures refused { (due : Due) (course : Course A.State) (trace : Trace) → RouterStands C.stands C.awaited C.number C.due A.answers A.state due course (files_meaning F.contents F.calls F.misses F.faults F.losses files.old) self.old trace →
-            IfErr result (λ error. error ≢ RanOut → refusal operation.now (A.names (A.state self.old.answerer)) trace ≡ Some error) }
+            IfErr result (λ error. error ≢ RanOut → IsJudged A.answers due course (state_of A.state F.contents F.calls F.misses F.faults F.losses self.old.answerer files.old) (A.names (A.state self.old.answerer)) trace operation.now (Some error)) }
         ensures unchanged { IfErr result (λ error. error ≢ RanOut → IsRefused A.state self.old self.new × (files.new ≡ files.old)) }
         ensures poisoned { self.old.poisoned ≡ true → result ≡ Err RanOut }
         ensures err { OnErr result (out.new.items ≡ out.old.items) }
@@ -395,21 +400,22 @@ impl<C: Owes, A: Answerer> Router<C, A> {
         }
     }
 
-    /// Marks a flow or takes an addon away.
+    /// Changes a draft, marks a flow or takes an addon away.
     fn change(&mut self, operation: &Operation) -> Result<(), OperateError>
         requires sound { IsTabled C.stands C.awaited C.number C.due A.answers self.old.table }
         requires no_flow { answers_for operation.now ≡ None }
         ensures operates { (moment : ℕ) (files : FilesMeaning) (out : List GivenStep) → OnOk result (Operates C.stands C.awaited C.number C.due A.answers moment operation.now self.old.table self.new.table (record { own = A.state self.old.answerer; files = files }) (record { own = A.state self.new.answerer; files = files }) out out) }
         ensures names { (name : List ℕ) → operation.now ≡ Drops name → OnOk result (A.names (A.state self.new.answerer) ≡ without_first name (A.names (A.state self.old.answerer))) }
         ensures moves { (files : FilesMeaning) → OnOk result (MovesBy A.answers A.drops operation.now (record { own = A.state self.old.answerer; files = files }) (record { own = A.state self.new.answerer; files = files })) }
-        ensures done { (due : Due) (course : Course A.State) (files : FilesMeaning) (trace : Trace) → RouterStands C.stands C.awaited C.number C.due A.answers A.state due course files self.old trace → OnOk result (refusal operation.now (A.names (A.state self.old.answerer)) trace ≡ None) }
-        ensures refused { (due : Due) (course : Course A.State) (files : FilesMeaning) (trace : Trace) → RouterStands C.stands C.awaited C.number C.due A.answers A.state due course files self.old trace → IfErr result (λ error. error ≢ RanOut → refusal operation.now (A.names (A.state self.old.answerer)) trace ≡ Some error) }
+        ensures done { (due : Due) (course : Course A.State) (files : FilesMeaning) (trace : Trace) → RouterStands C.stands C.awaited C.number C.due A.answers A.state due course files self.old trace → OnOk result (IsJudged A.answers due course (record { own = A.state self.old.answerer; files = files }) (A.names (A.state self.old.answerer)) trace operation.now None) }
+        ensures refused { (due : Due) (course : Course A.State) (files : FilesMeaning) (trace : Trace) → RouterStands C.stands C.awaited C.number C.due A.answers A.state due course files self.old trace → IfErr result (λ error. error ≢ RanOut → IsJudged A.answers due course (record { own = A.state self.old.answerer; files = files }) (A.names (A.state self.old.answerer)) trace operation.now (Some error)) }
         ensures unchanged { IfErr result (λ error. error ≢ RanOut → IsRefused A.state self.old self.new) }
         ensures no_memory { result ≡ Err RanOut → self.new.poisoned ≡ true }
         ensures ok { OnOk result (self.new.poisoned ≡ self.old.poisoned) }
         ensures goes_on { HoldsNoEnded C.ended self.old.table → OnOk result (HoldsNoEnded C.ended self.new.table) }
     {
         match operation {
+            Operation::Edit(id, change) => self.edit(*id, change),
             Operation::Mark(id) => self.mark(*id),
             Operation::DropAddon(name) => self.drop_named(name.as_slice()),
             Operation::Resume(_) | Operation::Kill(_) => unreachable!(),
@@ -576,6 +582,73 @@ impl<C: Owes, A: Answerer> Router<C, A> {
         Ok(held.conversation.ended())
     }
 
+    /// Changes the draft of the flow, if it waits.
+    fn edit(&mut self, id: FlowId, change: &Edit) -> Result<(), OperateError>
+        requires sound { IsTabled C.stands C.awaited C.number C.due A.answers self.old.table }
+        ensures operates { (moment : ℕ) (at : AnswererState A.State) (out : List GivenStep) → OnOk result (Operates C.stands C.awaited C.number C.due A.answers moment (Edits id change.now) self.old.table self.new.table at at out out) }
+        ensures done { (due : Due) (course : Course A.State) (now : AnswererState A.State) (names : List (List ℕ)) (trace : Trace) → TableStands C.stands C.awaited C.number C.due A.answers due course now self.old.table trace → OnOk result (IsJudged A.answers due course now names trace (Edits id change.now) None) }
+        ensures refused { (due : Due) (course : Course A.State) (now : AnswererState A.State) (names : List (List ℕ)) (trace : Trace) → TableStands C.stands C.awaited C.number C.due A.answers due course now self.old.table trace → IfErr result (λ error. error ≢ RanOut → IsJudged A.answers due course now names trace (Edits id change.now) (Some error)) }
+        ensures unchanged { IfErr result (λ error. error ≢ RanOut → IsRefused A.state self.old self.new) }
+        ensures answerer { self.new.answerer ≡ self.old.answerer }
+        ensures no_memory { result ≡ Err RanOut → self.new.poisoned ≡ true }
+        ensures ok { OnOk result (self.new.poisoned ≡ self.old.poisoned) }
+        ensures goes_on { HoldsNoEnded C.ended self.old.table → OnOk result (HoldsNoEnded C.ended self.new.table) }
+    {
+        if self.shows(id) {
+            self.edit_shown(id, change)
+        } else {
+            Err(OperateError::NoSuchFlow)
+        }
+    }
+
+    /// Changes the draft of the flow, which is live, if it waits.
+    fn edit_shown(&mut self, id: FlowId, change: &Edit) -> Result<(), OperateError>
+        requires shows { is_some (shown_in self.old.table.flows id.conv id.index) ≡ true }
+        requires sound { IsTabled C.stands C.awaited C.number C.due A.answers self.old.table }
+        ensures operates { (moment : ℕ) (at : AnswererState A.State) (out : List GivenStep) → OnOk result (Operates C.stands C.awaited C.number C.due A.answers moment (Edits id change.now) self.old.table self.new.table at at out out) }
+        ensures done { (due : Due) (course : Course A.State) (now : AnswererState A.State) (names : List (List ℕ)) (trace : Trace) → TableStands C.stands C.awaited C.number C.due A.answers due course now self.old.table trace → OnOk result (IsJudged A.answers due course now names trace (Edits id change.now) None) }
+        ensures refused { (due : Due) (course : Course A.State) (now : AnswererState A.State) (names : List (List ℕ)) (trace : Trace) → TableStands C.stands C.awaited C.number C.due A.answers due course now self.old.table trace → IfErr result (λ error. error ≢ RanOut → IsJudged A.answers due course now names trace (Edits id change.now) (Some error)) }
+        ensures unchanged { IfErr result (λ error. error ≢ RanOut → IsRefused A.state self.old self.new) }
+        ensures answerer { self.new.answerer ≡ self.old.answerer }
+        ensures no_memory { result ≡ Err RanOut → self.new.poisoned ≡ true }
+        ensures ok { OnOk result (self.new.poisoned ≡ self.old.poisoned) }
+        ensures goes_on { HoldsNoEnded C.ended self.old.table → OnOk result (HoldsNoEnded C.ended self.new.table) }
+    {
+        match self.key_of(id) {
+            Some(key) => match self.waiting(id) {
+                Some(hook) => self.edit_at(key, hook, change),
+                None => Err(OperateError::NotWaiting),
+            },
+            None => Err(OperateError::NotWaiting),
+        }
+    }
+
+    /// Changes the draft with which the conversation under this key waits, at this hook.
+    fn edit_at(&mut self, key: usize, hook: Hook, change: &Edit) -> Result<(), OperateError>
+        requires held { IsSome (held_under self.old.table.live key) }
+        requires waits { (held : _) → held_under self.old.table.live key ≡ Some held → IsSome held.draft }
+        ensures edits { (held : _) → held_under self.old.table.live key ≡ Some held → OnOk result (EditsAt key hook change.now held self.old.table self.new.table) }
+        ensures refused { (held kept : _) → held_under self.old.table.live key ≡ Some held → held.draft ≡ Some kept → IfErr result (λ error. error ≢ RanOut → refusal_of (changed change.now (edited_at hook kept.draft kept.edited)) ≡ Some error) }
+        ensures unchanged { IfErr result (λ error. error ≢ RanOut → IsRefused A.state self.old self.new) }
+        ensures answerer { self.new.answerer ≡ self.old.answerer }
+        ensures no_memory { result ≡ Err RanOut → self.new.poisoned ≡ true }
+        ensures ok { OnOk result (self.new.poisoned ≡ self.old.poisoned) }
+    {
+        let alloc = self.alloc;
+        let Some(held) = self.table.live.get_mut(key) else {
+            unreachable!()
+        };
+        match held.edit(alloc, hook, change) {
+            Ok(()) => Ok(()),
+            Err(EditError::NotThere) => Err(OperateError::NotThere),
+            Err(EditError::BadValue) => Err(OperateError::BadValue),
+            Err(EditError::NoMemory) => {
+                self.poisoned = true;
+                Err(OperateError::NoMemory)
+            }
+        }
+    }
+
     /// Marks the flow, if it is live.
     fn mark(&mut self, id: FlowId) -> Result<(), OperateError>
         requires sound { IsTabled C.stands C.awaited C.number C.due A.answers self.old.table }
@@ -670,6 +743,6 @@ fn answered_flow(operation: &Operation) -> Option<FlowId>
 {
     match operation {
         Operation::Resume(id) | Operation::Kill(id) => Some(*id),
-        Operation::Mark(_) | Operation::DropAddon(_) => None,
+        Operation::Edit(..) | Operation::Mark(_) | Operation::DropAddon(_) => None,
     }
 }

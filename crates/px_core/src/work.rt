@@ -14,7 +14,7 @@ ghost use Rattle.px_core.specs.Answers.{ByAnswers, FilesAfter, files_meaning, st
 ghost use Rattle.px_core.specs.Addons.{without_first};
 ghost use Rattle.px_core.specs.Course.{Course};
 ghost use Rattle.px_core.specs.Due.{Due};
-ghost use Rattle.px_core.specs.Router.{HoldsNoEnded, RouterStands, IsNow, IsRouted, IsRefused, MovesBy, BeginsNone, conv_of, is_known, found, operated_on, refusal};
+ghost use Rattle.px_core.specs.Router.{HoldsNoEnded, RouterStands, IsNow, IsRouted, IsRefused, MovesBy, BeginsNone, IsJudged, conv_of, is_known, found, operated_on};
 ghost use Rattle.px_core.specs.declared.operation.OperateError.TheVariants.{NoMemory as RanOut};
 ghost use Rattle.px_core.specs.declared.operation.Operation.TheVariants.{DropAddon as Drops};
 ghost use Rattle.px_core.specs.Calls.{addressed};
@@ -82,13 +82,13 @@ pub fn work_off<C: Owes, A: Answerer, M: Maker<C>, F: Files, N: Net, T: Taker>(
 }
 
 /// Does what an operator asks for, at the moment of what was heard last, as `Router::operate` says: then says and notes each step that follows in its
-/// order, and hands on each finished flow. Each step is of the flow's conversation alone, and nothing changes of another; a mark and an addon that is
+/// order, and hands on each finished flow. Each step is of the flow's conversation alone, and nothing changes of another; an edit, a mark and an addon that is
 /// dropped cause none. In every exit the answerer came over the trace by the course with this operation, and files are what its answers made of them.
 ///
 /// What the network tells may have more than the trace that the router stands for: what was said to numbers that no conversation has. The same steps
 /// are added to both.
 ///
-/// `NoSuchFlow`, `NotWaiting` and `NoSuchAddon` as `Router::operate` says; then nothing has changed. `NoMemory` where memory ran out: in the router,
+/// `NoSuchFlow`, `NotWaiting`, `NotThere`, `BadValue` and `NoSuchAddon` as `Router::operate` says; then nothing has changed. `NoMemory` where memory ran out: in the router,
 /// the network or the taker. The trace is served all the same, the flows that were handed on are a prefix of those that it finishes, and the
 /// router is poisoned.
 pub fn operate_over<C: Owes, A: Answerer, F: Files, N: Net, T: Taker>(
@@ -107,9 +107,9 @@ pub fn operate_over<C: Owes, A: Answerer, F: Files, N: Net, T: Taker>(
         IfErr result (λ error. error ≡ RanOut → BreaksOff A.answers A.fails due course operation.now trace told (N.trace net.new) (files_meaning F.contents F.calls F.misses F.faults F.losses files.new)) }
     ensures names { (name : List ℕ) → operation.now ≡ Drops name → OnOk result (A.names (A.state router.new.answerer) ≡ without_first name (A.names (A.state router.old.answerer))) }
     ensures moves { OnOk result (MovesBy A.answers A.drops operation.now (state_of A.state F.contents F.calls F.misses F.faults F.losses router.old.answerer files.old) (state_of A.state F.contents F.calls F.misses F.faults F.losses router.new.answerer files.new)) }
-    ensures done { (due : Due) (course : Course A.State) (trace : Trace) → RouterStands C.stands C.awaited C.number C.due A.answers A.state due course (files_meaning F.contents F.calls F.misses F.faults F.losses files.old) router.old trace → OnOk result (refusal operation.now (A.names (A.state router.old.answerer)) trace ≡ None) }
+    ensures done { (due : Due) (course : Course A.State) (trace : Trace) → RouterStands C.stands C.awaited C.number C.due A.answers A.state due course (files_meaning F.contents F.calls F.misses F.faults F.losses files.old) router.old trace → OnOk result (IsJudged A.answers due course (state_of A.state F.contents F.calls F.misses F.faults F.losses router.old.answerer files.old) (A.names (A.state router.old.answerer)) trace operation.now None) }
     ensures refused { (due : Due) (course : Course A.State) (trace : Trace) → RouterStands C.stands C.awaited C.number C.due A.answers A.state due course (files_meaning F.contents F.calls F.misses F.faults F.losses files.old) router.old trace →
-        IfErr result (λ error. error ≢ RanOut → refusal operation.now (A.names (A.state router.old.answerer)) trace ≡ Some error) }
+        IfErr result (λ error. error ≢ RanOut → IsJudged A.answers due course (state_of A.state F.contents F.calls F.misses F.faults F.losses router.old.answerer files.old) (A.names (A.state router.old.answerer)) trace operation.now (Some error)) }
     ensures unchanged { IfErr result (λ error. error ≢ RanOut → IsRefused A.state router.old router.new × (files.new ≡ files.old) × (N.trace net.new ≡ N.trace net.old) × (T.taken taker.new ≡ T.taken taker.old)) }
     ensures taken { (trace : Trace) → N.trace net.old ≡ Some trace → T.taken taker.old ≡ flat_map done_of trace →
         OnOk result (Tells (λ told. T.taken taker.new ≡ flat_map done_of told) trace (N.trace net.new)) }
@@ -128,6 +128,8 @@ pub fn operate_over<C: Owes, A: Answerer, F: Files, N: Net, T: Taker>(
         Err(OperateError::NoMemory) => out_of_memory(router),
         Err(OperateError::NoSuchFlow) => Err(OperateError::NoSuchFlow),
         Err(OperateError::NotWaiting) => Err(OperateError::NotWaiting),
+        Err(OperateError::NotThere) => Err(OperateError::NotThere),
+        Err(OperateError::BadValue) => Err(OperateError::BadValue),
         Err(OperateError::NoSuchAddon) => Err(OperateError::NoSuchAddon),
     }
 }
@@ -158,9 +160,9 @@ fn operate_told<C: Owes, A: Answerer, F: Files, N: Net, T: Taker>(
         IfErr result (λ error. error ≡ RanOut → BreaksOff A.answers A.fails due course operation.now trace told (N.trace net.new) (files_meaning F.contents F.calls F.misses F.faults F.losses files.new)) }
     ensures names { (name : List ℕ) → operation.now ≡ Drops name → OnOk result (A.names (A.state router.new.answerer) ≡ without_first name (A.names (A.state router.old.answerer))) }
     ensures moves { OnOk result (MovesBy A.answers A.drops operation.now (state_of A.state F.contents F.calls F.misses F.faults F.losses router.old.answerer files.old) (state_of A.state F.contents F.calls F.misses F.faults F.losses router.new.answerer files.new)) }
-    ensures done { (due : Due) (course : Course A.State) (trace : Trace) → RouterStands C.stands C.awaited C.number C.due A.answers A.state due course (files_meaning F.contents F.calls F.misses F.faults F.losses files.old) router.old trace → OnOk result (refusal operation.now (A.names (A.state router.old.answerer)) trace ≡ None) }
+    ensures done { (due : Due) (course : Course A.State) (trace : Trace) → RouterStands C.stands C.awaited C.number C.due A.answers A.state due course (files_meaning F.contents F.calls F.misses F.faults F.losses files.old) router.old trace → OnOk result (IsJudged A.answers due course (state_of A.state F.contents F.calls F.misses F.faults F.losses router.old.answerer files.old) (A.names (A.state router.old.answerer)) trace operation.now None) }
     ensures refused { (due : Due) (course : Course A.State) (trace : Trace) → RouterStands C.stands C.awaited C.number C.due A.answers A.state due course (files_meaning F.contents F.calls F.misses F.faults F.losses files.old) router.old trace →
-        IfErr result (λ error. error ≢ RanOut → refusal operation.now (A.names (A.state router.old.answerer)) trace ≡ Some error) }
+        IfErr result (λ error. error ≢ RanOut → IsJudged A.answers due course (state_of A.state F.contents F.calls F.misses F.faults F.losses router.old.answerer files.old) (A.names (A.state router.old.answerer)) trace operation.now (Some error)) }
     ensures unchanged { IfErr result (λ error. error ≢ RanOut → IsRefused A.state router.old router.new × (files.new ≡ files.old) × (N.trace net.new ≡ N.trace net.old) × (T.taken taker.new ≡ T.taken taker.old)) }
     ensures taken { (trace : Trace) → N.trace net.old ≡ Some trace → T.taken taker.old ≡ flat_map done_of trace →
         OnOk result (Tells (λ told. T.taken taker.new ≡ flat_map done_of told) trace (N.trace net.new)) }

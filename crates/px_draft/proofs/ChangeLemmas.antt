@@ -6,8 +6,8 @@ use Rattle.std.proofs.lemmas.List.{take_all}
 use Rattle.std.proofs.lemmas.List.Splits.{slice_split_none, slice_split_first}
 use Rattle.std.proofs.lemmas.List.Sums.{fails_before_first}
 use Rattle.std.proofs.lemmas.Grind.{common_steps}
-use Rattle.px_draft.specs.declared.change.Change.{Change}
-use Rattle.px_draft.specs.declared.change.ReadError.{ReadError}
+use Rattle.px_draft.specs.declared.edit.Edit.{Edit}
+use Rattle.px_draft.specs.declared.edit.ReadError.{ReadError}
 use Rattle.px_draft.specs.Changes.{IsNoChange, change_of_words, is_blank}
 
 -- a slice that goes to the end
@@ -65,12 +65,12 @@ more_words word name rest r at found some =
     (split_some (take (length rest - (at + 1)) (drop (at + 1) rest)))
 
 -- what a reader of one definition gives is that of an equal one
-pub ok_by : (due other : Option Change) (given : Result Change ReadError) → other ≡ due
+pub ok_by : (due other : Option Edit) (given : Result Edit ReadError) → other ≡ due
     → IfOk given (λ change. due ≡ Some change) → IfOk given (λ change. other ≡ Some change)
 ok_by due other (Ok change) is h = is ∙ h
 ok_by due other (Err e) is h = tt
 
-pub err_by : (due other : Option Change) (given : Result Change ReadError) → other ≡ due
+pub err_by : (due other : Option Edit) (given : Result Edit ReadError) → other ≡ due
     → IfErr given (IsNoChange due) → IfErr given (IsNoChange other)
 err_by due other (Ok change) is h = tt
 err_by due other (Err e) is (inl memory) = inl memory

@@ -4,14 +4,14 @@ use Rattle.std.specs.List.{concat}
 use Rattle.std.proofs.lemmas.List.Folds.{list_all-append}
 use Rattle.base64.specs.GeneralPurpose.{IsBytes}
 use Rattle.px_message.specs.Value.{is_value, is_value_byte}
-use Rattle.px_draft.specs.declared.change.Change.TheVariants as change
-use Rattle.px_draft.specs.declared.draft.Draft.{Draft}
-use Rattle.px_draft.specs.declared.error.ChangeError.{ChangeError}
-use Rattle.px_draft.specs.declared.error.ChangeError.TheVariants as error
+use Rattle.px_draft.specs.declared.edit.Edit.TheVariants as change
+use Rattle.px_draft.specs.declared.edited.Edited.{Edited}
+use Rattle.px_draft.specs.declared.error.EditError.{EditError}
+use Rattle.px_draft.specs.declared.error.EditError.TheVariants as error
 use Rattle.px_draft.specs.declared.given.Given.TheVariants as givens
 use Rattle.px_draft.specs.declared.given.Placing.{Placing}
 use Rattle.px_draft.specs.declared.given.Placing.TheVariants as placings
-use Rattle.px_draft.specs.Drafts.{changed, changed_by, field_by, flow_of, gives, judged, kept, more_by, with_given}
+use Rattle.px_draft.specs.Edits.{changed, changed_by, field_by, flow_of, gives, judged, kept, more_by, with_given}
 use Rattle.px_draft.specs.Laws.{AreBytes, PiecesMakeOne, field_line, more_line}
 use Rattle.px_draft.specs.Subjects.{fields_in, has_body, is_whole, subject_of, with_body}
 use Rattle.px_draft.specs.Words.{base64_text, bytes_of, checked_value, name_of, value_of}
@@ -45,7 +45,7 @@ value_front a b is = by_test (is_value a) (is_value b) refl (sym (list_all-appen
 -- ---- more behind what is open
 
 -- a line that adds to a field, by what its text is read as
-field_on : (d : Draft) (placing : Placing) (name value more : List ℕ) (read : Option (List ℕ)) → read ≡ Some more → is_value (value ++ more) ≡ true
+field_on : (d : Edited) (placing : Placing) (name value more : List ℕ) (read : Option (List ℕ)) → read ≡ Some more → is_value (value ++ more) ≡ true
     → kept (with_given d (givens.Field placing name value)) (judged (option_map (with_given (with_given d (givens.Field placing name value))) (more_by (givens.Field placing name value) read)))
     ≡ with_given d (givens.Field placing name (value ++ more))
 field_on d placing name value more read is valid =
@@ -53,7 +53,7 @@ field_on d placing name value more read is valid =
     ap (λ r. kept now (judged (option_map (with_given now) (more_by (givens.Field placing name value) r)))) is
     ∙ ap (λ b. kept now (judged (option_map (with_given now) (cond b (Some (givens.Field placing name (value ++ more))) None)))) valid
 
-more_field : (pieces : List (List ℕ)) (d : Draft) (placing : Placing) (name value : List ℕ) → AreBytes pieces → is_value (value ++ concat pieces) ≡ true
+more_field : (pieces : List (List ℕ)) (d : Edited) (placing : Placing) (name value : List ℕ) → AreBytes pieces → is_value (value ++ concat pieces) ≡ true
     → changed_by (map more_line pieces) (with_given d (givens.Field placing name value)) ≡ with_given d (givens.Field placing name (value ++ concat pieces))
 more_field [] d placing name value are valid = ap (λ v. with_given d (givens.Field placing name v)) (sym (append-nil value))
 more_field (piece ∷ pieces) d placing name value are valid =
@@ -63,11 +63,11 @@ more_field (piece ∷ pieces) d placing name value are valid =
     ∙ more_field pieces d placing name (value ++ piece) are.1 whole
     ∙ ap (λ v. with_given d (givens.Field placing name v)) (sym again)
 
-body_on : (d : Draft) (body more : List ℕ) (read : Option (List ℕ)) → read ≡ Some more
+body_on : (d : Edited) (body more : List ℕ) (read : Option (List ℕ)) → read ≡ Some more
     → judged (option_map (with_given (with_given d (givens.Body body))) (more_by (givens.Body body) read)) ≡ Ok (with_given d (givens.Body (body ++ more)))
 body_on d body more read is = ap (λ r. judged (option_map (with_given (with_given d (givens.Body body))) (more_by (givens.Body body) r))) is
 
-more_body : (pieces : List (List ℕ)) (d : Draft) (body : List ℕ) → AreBytes pieces
+more_body : (pieces : List (List ℕ)) (d : Edited) (body : List ℕ) → AreBytes pieces
     → changed_by (map more_line pieces) (with_given d (givens.Body body)) ≡ with_given d (givens.Body (body ++ concat pieces))
 more_body [] d body are = ap (λ b. with_given d (givens.Body b)) (sym (append-nil body))
 more_body (piece ∷ pieces) d body are =
@@ -78,13 +78,13 @@ more_body (piece ∷ pieces) d body are =
 -- ---- behind a field
 
 -- the answer to a line that puts a field, by what its words are read as
-abbrev field_answer : Draft → Placing → Bool → Option (List ℕ) → Option (List ℕ) → Result Draft ChangeError
+abbrev field_answer : Edited → Placing → Bool → Option (List ℕ) → Option (List ℕ) → Result Edited EditError
 field_answer draft placing there name value = cond there (judged (option_map (gives draft) (field_by placing name value))) (Err error.NotThere)
 
-abbrev has_fields : Draft → Bool
+abbrev has_fields : Edited → Bool
 has_fields draft = is_some (fields_in (subject_of draft.hook) draft.flow)
 
-field_answered : (placing : Placing) (name value : List ℕ) (draft : Draft)
+field_answered : (placing : Placing) (name value : List ℕ) (draft : Edited)
     → changed (field_line placing name value) draft ≡ field_answer draft placing (has_fields draft) (name_of name) (value_of (base64_text value))
 field_answered placings.Set name value draft = refl
 field_answered placings.Add name value draft = refl
@@ -93,7 +93,7 @@ value_read : (value : List ℕ) → IsBytes value → value_of (base64_text valu
 value_read value are = ap (λ r. option_and_then checked_value r) (bytes_back value are)
 
 -- what was taken
-record Took (draft : Draft) (placing : Placing) (there : Bool) (name value : Option (List ℕ)) (one : Draft) : Type 0 where
+record Took (draft : Edited) (placing : Placing) (there : Bool) (name value : Option (List ℕ)) (one : Edited) : Type 0 where
   is_there : there ≡ true
   name_is : List ℕ
   value_is : List ℕ
@@ -101,7 +101,7 @@ record Took (draft : Draft) (placing : Placing) (there : Bool) (name value : Opt
   has_value : value ≡ Some value_is
   made : one ≡ gives draft (givens.Field placing name_is value_is)
 
-took : (draft : Draft) (placing : Placing) (there : Bool) (name value : Option (List ℕ)) (one : Draft) → field_answer draft placing there name value ≡ Ok one → Took draft placing there name value one
+took : (draft : Edited) (placing : Placing) (there : Bool) (name value : Option (List ℕ)) (one : Edited) → field_answer draft placing there name value ≡ Ok one → Took draft placing there name value one
 took draft placing false name value one is = cc
 took draft placing true None value one is = cc
 took draft placing true (Some name) None one is = cc
@@ -113,7 +113,7 @@ checked_is : (value found : List ℕ) (test : Bool) → cond test (Some value) N
 checked_is value found true is = cc
 checked_is value found false is = cc
 
-field_pieces : (placing : Placing) (name first : List ℕ) (pieces : List (List ℕ)) (draft one : Draft) → IsBytes first → AreBytes pieces
+field_pieces : (placing : Placing) (name first : List ℕ) (pieces : List (List ℕ)) (draft one : Edited) → IsBytes first → AreBytes pieces
     → is_value (first ++ concat pieces) ≡ true → changed (field_line placing name first) draft ≡ Ok one
     → changed (field_line placing name (first ++ concat pieces)) draft ≡ Ok (changed_by (map more_line pieces) one)
 field_pieces placing name first pieces draft one first_bytes are valid is =
@@ -134,26 +134,26 @@ field_pieces placing name first pieces draft one first_bytes are valid is =
 
 -- ---- behind a body
 
-cleared : (draft one : Draft) (there : Bool) → cond there (Ok (gives draft (givens.Body []))) (Err error.NotThere) ≡ Ok one → one ≡ gives draft (givens.Body [])
+cleared : (draft one : Edited) (there : Bool) → cond there (Ok (gives draft (givens.Body []))) (Err error.NotThere) ≡ Ok one → one ≡ gives draft (givens.Body [])
 cleared draft one true is = cc
 cleared draft one false is = cc
 
-is_cleared : (draft one : Draft) → changed change.ClearBody draft ≡ Ok one → one ≡ gives draft (givens.Body [])
+is_cleared : (draft one : Edited) → changed change.ClearBody draft ≡ Ok one → one ≡ gives draft (givens.Body [])
 is_cleared draft one is = cleared draft one (is_whole draft.hook && has_body (subject_of draft.hook) draft.flow) is
 
-body_pieces : (pieces : List (List ℕ)) (draft one : Draft) → AreBytes pieces → changed change.ClearBody draft ≡ Ok one
+body_pieces : (pieces : List (List ℕ)) (draft one : Edited) → AreBytes pieces → changed change.ClearBody draft ≡ Ok one
     → changed (more_line (concat pieces)) one ≡ Ok (changed_by (map more_line pieces) one)
 body_pieces pieces draft one are is =
-    let P : Draft → Type 0 = λ d. changed (more_line (concat pieces)) d ≡ Ok (changed_by (map more_line pieces) d) in
+    let P : Edited → Type 0 = λ d. changed (more_line (concat pieces)) d ≡ Ok (changed_by (map more_line pieces) d) in
     let cleared_draft = gives draft (givens.Body []) in
     subst P (sym (is_cleared draft one is))
     (body_on cleared_draft [] (concat pieces) (bytes_of (base64_text (concat pieces))) (bytes_back (concat pieces) (bytes_concat pieces are))
     ∙ ap Ok (sym (more_body pieces cleared_draft [] are)))
 
-body_whole : (pieces : List (List ℕ)) (draft one : Draft) → AreBytes pieces → changed change.ClearBody draft ≡ Ok one
+body_whole : (pieces : List (List ℕ)) (draft one : Edited) → AreBytes pieces → changed change.ClearBody draft ≡ Ok one
     → flow_of (changed_by (map more_line pieces) one) ≡ with_body (subject_of draft.hook) (concat pieces) (flow_of draft)
 body_whole pieces draft one are is =
-    let P : Draft → Type 0 = λ d. flow_of (changed_by (map more_line pieces) d) ≡ with_body (subject_of draft.hook) (concat pieces) (flow_of draft) in
+    let P : Edited → Type 0 = λ d. flow_of (changed_by (map more_line pieces) d) ≡ with_body (subject_of draft.hook) (concat pieces) (flow_of draft) in
     subst P (sym (is_cleared draft one is)) (ap flow_of (more_body pieces (gives draft (givens.Body [])) [] are))
 
 pub pieces_make_one : PiecesMakeOne

@@ -6,16 +6,16 @@ use Rattle.px_message.specs.declared.flow.Flow.{Flow}
 use Rattle.px_message.specs.declared.flow.WsMessage.{WsMessage}
 use Rattle.px_message.specs.declared.request.Request.{Request}
 use Rattle.px_message.specs.declared.response.Response.{Response}
-use Rattle.px_draft.specs.declared.change.Change.{Change}
-use Rattle.px_draft.specs.declared.change.Change.TheVariants as change
-use Rattle.px_draft.specs.declared.draft.Draft.{Draft}
-use Rattle.px_draft.specs.declared.error.ChangeError.TheVariants as error
+use Rattle.px_draft.specs.declared.edit.Edit.{Edit}
+use Rattle.px_draft.specs.declared.edit.Edit.TheVariants as change
+use Rattle.px_draft.specs.declared.edited.Edited.{Edited}
+use Rattle.px_draft.specs.declared.error.EditError.TheVariants as error
 use Rattle.px_draft.specs.declared.given.Given.{Given}
 use Rattle.px_draft.specs.declared.given.Given.TheVariants as givens
 use Rattle.px_draft.specs.declared.given.Placing.TheVariants as placings
 use Rattle.px_draft.specs.declared.subject.Subject.{Subject}
 use Rattle.px_draft.specs.declared.subject.Subject.TheVariants as subjects
-use Rattle.px_draft.specs.Drafts.{answered, changed, changed_by, field_by, flow_of, gives, is_at_request, is_at_response, is_there, judged, kept, made, method_by, more_by, placed, put_in, removed_by, request_by, status_by, turned, with_given, with_request}
+use Rattle.px_draft.specs.Edits.{answered, changed, changed_by, field_by, flow_of, gives, is_at_request, is_at_response, is_there, judged, kept, made, method_by, more_by, placed, put_in, removed_by, request_by, status_by, turned, with_given, with_request}
 use Rattle.px_draft.specs.Laws.{ChangesStayAtTheirMessage, IsAt, Stays, message_rest, request_rest, response_rest}
 use Rattle.px_draft.specs.Requests.{located, located_at, named_by, with_method, with_url}
 use Rattle.px_draft.specs.Subjects.{Fields, change_fields_by, fields_in, message_with, response_with_body, response_with_fields, subject_of, with_body}
@@ -101,10 +101,10 @@ some_is : {A : Type 0} (a b : A) → Some a ≡ Some b → a ≡ b
 some_is a b is = cc
 
 -- the draft with another flow
-turned_stays : (draft next : Draft) (flow : Flow) → IsAt (subject_of draft.hook) (flow_of draft) flow → turned draft flow ≡ next → Stays draft next
+turned_stays : (draft next : Edited) (flow : Flow) → IsAt (subject_of draft.hook) (flow_of draft) flow → turned draft flow ≡ next → Stays draft next
 turned_stays draft next flow at is = subst (Stays draft) is (record { hook = refl; flow = at })
 
-request_stays : (draft next : Draft) (becomes : Option Request) → is_at_request (subject_of draft.hook) ≡ true
+request_stays : (draft next : Edited) (becomes : Option Request) → is_at_request (subject_of draft.hook) ≡ true
     → ((r : Request) → becomes ≡ Some r → request_rest r ≡ request_rest (flow_of draft).request)
     → option_map (turned draft) (request_by (flow_of draft) becomes) ≡ Some next → Stays draft next
 request_stays draft next None there rest is = cc
@@ -112,38 +112,38 @@ request_stays draft next (Some request) there rest is =
     turned_stays draft next (with_request (flow_of draft) request) (at_request (subject_of draft.hook) there (flow_of draft) request (rest request refl))
     (some_is _ next is)
 
-method_stays : (draft next : Draft) (name : Option (List ℕ)) → is_at_request (subject_of draft.hook) ≡ true
+method_stays : (draft next : Edited) (name : Option (List ℕ)) → is_at_request (subject_of draft.hook) ≡ true
     → option_map (turned draft) (method_by (flow_of draft) name) ≡ Some next → Stays draft next
 method_stays draft next None there is = cc
 method_stays draft next (Some name) there is =
     request_stays draft next (with_method name (flow_of draft).request) there (λ r made. method_rest (flow_of draft).request r name _ refl made) is
 
-status_stays : (draft next : Draft) (code : Option ℕ) → is_at_response (subject_of draft.hook) draft.flow ≡ true
+status_stays : (draft next : Edited) (code : Option ℕ) → is_at_response (subject_of draft.hook) draft.flow ≡ true
     → option_map (turned draft) (status_by (flow_of draft) code) ≡ Some next → Stays draft next
 status_stays draft next None there is = cc
 status_stays draft next (Some code) there is =
     turned_stays draft next _ (at_status (subject_of draft.hook) code (flow_of draft) draft.flow there) (some_is _ next is)
 
-removed_stays : (draft next : Draft) (name : Option (List ℕ)) → option_map (turned draft) (removed_by (subject_of draft.hook) (flow_of draft) name) ≡ Some next → Stays draft next
+removed_stays : (draft next : Edited) (name : Option (List ℕ)) → option_map (turned draft) (removed_by (subject_of draft.hook) (flow_of draft) name) ≡ Some next → Stays draft next
 removed_stays draft next None is = cc
 removed_stays draft next (Some name) is =
     turned_stays draft next _ (at_fields (subject_of draft.hook) (without name) (flow_of draft) (fields_in (subject_of draft.hook) (flow_of draft))) (some_is _ next is)
 
-given_stays : (draft next : Draft) (given : Given) → gives draft given ≡ next → Stays draft next
+given_stays : (draft next : Edited) (given : Given) → gives draft given ≡ next → Stays draft next
 given_stays draft next given is = subst (Stays draft) is (record { hook = refl; flow = at_given (subject_of draft.hook) given (flow_of draft) })
 
-field_stays : (draft next : Draft) (field : Option Given) → option_map (gives draft) field ≡ Some next → Stays draft next
+field_stays : (draft next : Edited) (field : Option Given) → option_map (gives draft) field ≡ Some next → Stays draft next
 field_stays draft next None is = cc
 field_stays draft next (Some given) is = given_stays draft next given (some_is _ next is)
 
-more_stays : (draft next : Draft) (given : Option Given) → option_map (with_given draft) given ≡ Some next → Stays draft next
+more_stays : (draft next : Edited) (given : Option Given) → option_map (with_given draft) given ≡ Some next → Stays draft next
 more_stays draft next None is = cc
 more_stays draft next (Some given) is =
     let s = subject_of draft.hook in
     subst (Stays draft) (some_is _ next is)
     (record { hook = refl; flow = at_both s (flow_of draft) draft.flow (put_in s given draft.flow) (at_other s draft.flow (flow_of draft) (at_given s draft.given draft.flow)) (at_given s given draft.flow) })
 
-made_stays : (c : Change) (draft next : Draft) → is_there c draft ≡ true → made c draft ≡ Some next → Stays draft next
+made_stays : (c : Edit) (draft next : Edited) → is_there c draft ≡ true → made c draft ≡ Some next → Stays draft next
 made_stays (change.Method name) draft next there is = method_stays draft next (name_of name) there is
 made_stays (change.Url text) draft next there is =
     request_stays draft next (with_url text (flow_of draft).request) there (λ r made. url_rest (flow_of draft).request r (absolute_form text) made) is
@@ -156,16 +156,16 @@ made_stays (change.More text) draft next there is = more_stays draft next (more_
 
 -- ---- a line, and many
 
-pub itself_stays : (draft : Draft) → Stays draft draft
+pub itself_stays : (draft : Edited) → Stays draft draft
 itself_stays draft = record { hook = refl; flow = at_itself (subject_of draft.hook) (flow_of draft) }
 
-kept_stays : (c : Change) (draft : Draft) (there : Bool) (becomes : Option Draft) → (is_there c draft ≡ there) → (made c draft ≡ becomes)
+kept_stays : (c : Edit) (draft : Edited) (there : Bool) (becomes : Option Edited) → (is_there c draft ≡ there) → (made c draft ≡ becomes)
     → Stays draft (kept draft (cond there (judged becomes) (Err error.NotThere)))
 kept_stays c draft false becomes there is = itself_stays draft
 kept_stays c draft true None there is = itself_stays draft
 kept_stays c draft true (Some next) there is = made_stays c draft next there is
 
-both_stay : (a b c : Draft) → Stays a b → Stays b c → Stays a c
+both_stay : (a b c : Edited) → Stays a b → Stays b c → Stays a c
 both_stay a b c first second = record {
   hook = second.hook ∙ first.hook;
   flow = at_both (subject_of a.hook) (flow_of a) (flow_of b) (flow_of c) first.flow (subst (λ h. IsAt (subject_of h) (flow_of b) (flow_of c)) first.hook second.flow);

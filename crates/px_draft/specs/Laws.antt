@@ -9,15 +9,15 @@ use Rattle.px_message.specs.declared.request.Request.{Request}
 use Rattle.px_message.specs.declared.response.Response.{Response}
 use Rattle.px_message.specs.declared.version.Version.{Version}
 use Rattle.px_event.specs.declared.ask.Hook.{Hook}
-use Rattle.px_draft.specs.declared.change.Change.{Change}
-use Rattle.px_draft.specs.declared.change.Change.TheVariants as change
-use Rattle.px_draft.specs.declared.draft.Draft.{Draft}
-use Rattle.px_draft.specs.declared.error.ChangeError.{ChangeError}
+use Rattle.px_draft.specs.declared.edit.Edit.{Edit}
+use Rattle.px_draft.specs.declared.edit.Edit.TheVariants as change
+use Rattle.px_draft.specs.declared.edited.Edited.{Edited}
+use Rattle.px_draft.specs.declared.error.EditError.{EditError}
 use Rattle.px_draft.specs.declared.given.Placing.{Placing}
 use Rattle.px_draft.specs.declared.given.Placing.TheVariants as placings
 use Rattle.px_draft.specs.declared.subject.Subject.{Subject}
 use Rattle.px_draft.specs.declared.subject.Subject.TheVariants as subjects
-use Rattle.px_draft.specs.Drafts.{behind, changed, changed_by, flow_of, fresh}
+use Rattle.px_draft.specs.Edits.{behind, changed, changed_by, flow_of, fresh}
 use Rattle.px_draft.specs.Subjects.{Fields, subject_of, with_body}
 use Rattle.px_draft.specs.Words.{base64_text, bytes_of}
 
@@ -32,21 +32,21 @@ NoChangeIsTheFlow = (hook : Hook) (flow : Flow) → flow_of (changed_by [] (fres
 
 -- Behind a line that is refused the draft is as before.
 abbrev pub RefusalChangesNothing : Type 0
-RefusalChangesNothing = (change : Change) (draft : Draft) (refusal : ChangeError) → changed change draft ≡ Err refusal → behind draft change ≡ draft
+RefusalChangesNothing = (change : Edit) (draft : Edited) (refusal : EditError) → changed change draft ≡ Err refusal → behind draft change ≡ draft
 
 -- Lines that follow others change what these made.
 abbrev pub LinesFollow : Type 0
-LinesFollow = (changes more : List Change) (draft : Draft) → changed_by (changes ++ more) draft ≡ changed_by more (changed_by changes draft)
+LinesFollow = (changes more : List Edit) (draft : Edited) → changed_by (changes ++ more) draft ≡ changed_by more (changed_by changes draft)
 
 -- ---- pieces
 
 -- the line that puts a field of this value
-abbrev pub field_line : Placing → List ℕ → List ℕ → Change
+abbrev pub field_line : Placing → List ℕ → List ℕ → Edit
 field_line placings.Set name value = change.Set name (base64_text value)
 field_line placings.Add name value = change.Add name (base64_text value)
 
 -- the line that adds these bytes
-abbrev pub more_line : List ℕ → Change
+abbrev pub more_line : List ℕ → Edit
 more_line bytes = change.More (base64_text bytes)
 
 -- all of them are bytes
@@ -57,14 +57,14 @@ AreBytes (piece ∷ pieces) = IsBytes piece × AreBytes pieces
 -- Bytes that come in pieces behind a line that is taken make what one line with all of them makes.
 pub record PiecesMakeOne : Type 0 where
   -- behind a field
-  pub field : (placing : Placing) (name first : List ℕ) (pieces : List (List ℕ)) (draft one : Draft) → IsBytes first → AreBytes pieces →
+  pub field : (placing : Placing) (name first : List ℕ) (pieces : List (List ℕ)) (draft one : Edited) → IsBytes first → AreBytes pieces →
       is_value (first ++ concat pieces) ≡ true → changed (field_line placing name first) draft ≡ Ok one →
       changed (field_line placing name (first ++ concat pieces)) draft ≡ Ok (changed_by (map more_line pieces) one)
   -- behind a body
-  pub body : (pieces : List (List ℕ)) (draft one : Draft) → AreBytes pieces → changed change.ClearBody draft ≡ Ok one →
+  pub body : (pieces : List (List ℕ)) (draft one : Edited) → AreBytes pieces → changed change.ClearBody draft ≡ Ok one →
       changed (more_line (concat pieces)) one ≡ Ok (changed_by (map more_line pieces) one)
   -- which then is those bytes, and all else is as it was
-  pub whole : (pieces : List (List ℕ)) (draft one : Draft) → AreBytes pieces → changed change.ClearBody draft ≡ Ok one →
+  pub whole : (pieces : List (List ℕ)) (draft one : Edited) → AreBytes pieces → changed change.ClearBody draft ≡ Ok one →
       flow_of (changed_by (map more_line pieces) one) ≡ with_body (subject_of draft.hook) (concat pieces) (flow_of draft)
 
 -- ---- what stays
@@ -88,9 +88,9 @@ IsAt subjects.Message before after =
     (record after { message = before.message } ≡ before) × (option_map message_rest after.message ≡ option_map message_rest before.message)
 
 -- Whatever lines come, the hook is the one that it was, and the flow differs in its message alone.
-pub record Stays (before after : Draft) : Type 0 where
+pub record Stays (before after : Edited) : Type 0 where
   pub hook : after.hook ≡ before.hook
   pub flow : IsAt (subject_of before.hook) (flow_of before) (flow_of after)
 
 abbrev pub ChangesStayAtTheirMessage : Type 0
-ChangesStayAtTheirMessage = (changes : List Change) (draft : Draft) → Stays draft (changed_by changes draft)
+ChangesStayAtTheirMessage = (changes : List Edit) (draft : Edited) → Stays draft (changed_by changes draft)

@@ -1,5 +1,5 @@
 pub mod Changes
-pub mod Drafts
+pub mod Edits
 pub mod Laws
 pub mod Requests
 pub mod Rows

@@ -11,14 +11,14 @@ use Rattle.px_message.specs.declared.response.Response.{Response}
 use Rattle.px_message.specs.declared.version.Version.TheVariants.{Http11}
 use Rattle.px_event.specs.declared.ask.Hook.{Hook}
 use Rattle.px_event.specs.declared.ask.Hook.TheVariants as hooks
-use Rattle.px_draft.specs.declared.change.Change.{Change}
-use Rattle.px_draft.specs.declared.draft.Draft.{Draft}
-use Rattle.px_draft.specs.declared.error.ChangeError.{ChangeError}
-use Rattle.px_draft.specs.declared.error.ChangeError.TheVariants as error
+use Rattle.px_draft.specs.declared.edit.Edit.{Edit}
+use Rattle.px_draft.specs.declared.edited.Edited.{Edited}
+use Rattle.px_draft.specs.declared.error.EditError.{EditError}
+use Rattle.px_draft.specs.declared.error.EditError.TheVariants as error
 use Rattle.px_draft.specs.declared.subject.Subject.{Subject}
 use Rattle.px_draft.specs.declared.subject.Subject.TheVariants as subjects
 use Rattle.px_draft.specs.Changes.{change_of}
-use Rattle.px_draft.specs.Drafts.{changed, flow_of, fresh}
+use Rattle.px_draft.specs.Edits.{changed, flow_of, fresh}
 use Rattle.px_draft.specs.Subjects.{Fields, subject_of}
 
 -- the definition says each row's answer of its input
@@ -52,25 +52,25 @@ shown_of subjects.Request flow = request_shown flow.request
 shown_of subjects.Response flow = response_shown flow.response
 shown_of subjects.Message flow = message_shown flow.message
 
-abbrev pub shown : Draft → List ℕ
+abbrev pub shown : Edited → List ℕ
 shown draft = shown_of (subject_of draft.hook) (flow_of draft)
 
-abbrev pub refusal_words : ChangeError → List ℕ
+abbrev pub refusal_words : EditError → List ℕ
 refusal_words error.NotThere = codes "not there|"
 refusal_words error.BadValue = codes "bad value|"
 refusal_words error.NoMemory = codes "out of memory|"
 
 -- what follows an answer: the other lines, over the draft as it is then
-abbrev pub told_on : (Draft → List ℕ) → Draft → Result Draft ChangeError → List ℕ
+abbrev pub told_on : (Edited → List ℕ) → Edited → Result Edited EditError → List ℕ
 told_on others draft (Ok next) = codes "ok|" ++ others next
 told_on others draft (Err refusal) = refusal_words refusal ++ others draft
 
-abbrev pub told_by : (Draft → List ℕ) → Draft → Option Change → List ℕ
+abbrev pub told_by : (Edited → List ℕ) → Edited → Option Edit → List ℕ
 told_by others draft None = codes "unknown command|" ++ others draft
 told_by others draft (Some change) = told_on others draft (changed change draft)
 
 -- the answers of these lines, and the draft behind them
-abbrev pub told : List (List ℕ) → Draft → List ℕ
+abbrev pub told : List (List ℕ) → Edited → List ℕ
 told [] draft = shown draft
 told (line ∷ lines) draft = told_by (told lines) draft (change_of line)
 

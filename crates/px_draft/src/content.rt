@@ -1,6 +1,6 @@
 //! A flow with another body of the message that a hook is about, and with what the last line gave.
 ghost use Rattle.std.specs.Prelude.{◌≡◌, option_map, IfOk, OnOk};
-ghost use Rattle.px_draft.specs.Drafts.{put_in};
+ghost use Rattle.px_draft.specs.Edits.{put_in};
 ghost use Rattle.px_draft.specs.Subjects.{has_body, holds_body, message_with, response_with_body, with_body};
 ghost use Rattle.px_draft.specs.declared.subject.Subject.TheVariants as subjects;
 

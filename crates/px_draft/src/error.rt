@@ -1,12 +1,12 @@
 //! Why a change is not made.
 ghost use Rattle.std.specs.Prelude.{◌≡◌};
-ghost use Rattle.px_draft.specs.declared.error.ChangeError.TheVariants as error;
+ghost use Rattle.px_draft.specs.declared.error.EditError.TheVariants as error;
 
 use px_text::NoMemory;
 
 /// Why a change is not made. The draft is as before then.
 #[derive(Clone, Copy, Debug, PartialEq, Eq)]
-pub enum ChangeError {
+pub enum EditError {
     /// The hook is about something else, or nothing stands that `more` goes on with.
     NotThere,
     /// A word is no method, no URL, no status, no name, or no base64 of what may stand there.
@@ -15,10 +15,10 @@ pub enum ChangeError {
     NoMemory,
 }
 
-impl From<NoMemory> for ChangeError {
+impl From<NoMemory> for EditError {
     ghost from_gives = { λ _ y. y ≡ error.NoMemory };
 
-    fn from(_value: NoMemory) -> ChangeError {
-        ChangeError::NoMemory
+    fn from(_value: NoMemory) -> EditError {
+        EditError::NoMemory
     }
 }

@@ -1,12 +1,12 @@
 //! A flow with other fields of the message that a hook is about.
 ghost use Rattle.std.specs.Prelude.{◌≡◌, Some, None, is_some, option_map, IfOk, IfErr, OnOk};
 ghost use Rattle.px_message.specs.Fields.{without};
-ghost use Rattle.px_draft.specs.Drafts.{IsRefusal, placed, removed_by};
+ghost use Rattle.px_draft.specs.Edits.{IsRefusal, placed, removed_by};
 ghost use Rattle.px_draft.specs.Subjects.{change_fields, fields_in, response_with_fields, with_fields};
 ghost use Rattle.px_draft.specs.Words.{name_of};
 ghost use Rattle.px_draft.specs.declared.subject.Subject.TheVariants as subjects;
 
-use crate::ChangeError;
+use crate::EditError;
 use crate::given::{OpenValue, Placing};
 use crate::subject::Subject;
 use crate::words::name_of;
@@ -20,7 +20,7 @@ pub(crate) fn remove_fields(
     subject: Subject,
     flow: &mut Flow,
     name: &[u8],
-) -> Result<(), ChangeError>
+) -> Result<(), EditError>
     ensures put { OnOk result (removed_by subject flow.old (name_of name.now) ≡ Some flow.new) }
     ensures refused { IfErr result (IsRefusal (removed_by subject flow.old (name_of name.now))) }
 {

@@ -1,9 +1,9 @@
 //! What the last line gave, to which more may be added.
 ghost use Rattle.std.specs.Prelude.{◌≡◌, ◌⊎◌, ◌++◌, [], true, false, IfOk, IfErr, OnOk, OnErr, MatchOption};
 ghost use Rattle.px_message.specs.Value.{is_value};
-ghost use Rattle.px_draft.specs.declared.error.ChangeError.TheVariants as error;
+ghost use Rattle.px_draft.specs.declared.error.EditError.TheVariants as error;
 
-use crate::ChangeError;
+use crate::EditError;
 use px_message::{Name, Value};
 use px_text::{Bytes, NoMemory};
 use std::alloc::Global;
@@ -105,17 +105,17 @@ impl OpenValue {
 
     /// Adds bytes at the end. `BadValue` exactly where a CR, an LF or a NUL stands among them. After a refusal it is as before.
     #[tactic(auto, using(crate::proofs::ValueLemmas::value_append, crate::proofs::ValueLemmas::value_refused))]
-    pub(crate) fn push(&mut self, more: &[u8]) -> Result<(), ChangeError>
+    pub(crate) fn push(&mut self, more: &[u8]) -> Result<(), EditError>
         ensures pushed { OnOk result ((self.new ≡ self.old ++ more.now) × (is_value (self.old ++ more.now) ≡ true)) }
         ensures refused { IfErr result (λ e. (e ≡ error.NoMemory) ⊎ ((e ≡ error.BadValue) × (is_value (self.old ++ more.now) ≡ false))) }
         ensures unchanged { OnErr result (self.new ≡ self.old) }
     {
         if !is_value(more) {
-            return Err(ChangeError::BadValue);
+            return Err(EditError::BadValue);
         }
         match self.bytes.extend_from_slice(more) {
             Ok(()) => Ok(()),
-            Err(_) => Err(ChangeError::NoMemory),
+            Err(_) => Err(EditError::NoMemory),
         }
     }
 

@@ -1,11 +1,11 @@
 //! A flow whose request has another method or URL, or whose response has another status.
 ghost use Rattle.std.specs.Prelude.{◌≡◌, Some, None, option_map, IfOk, IfErr, OnOk};
 ghost use Rattle.px_write.specs.Short.{reason_of};
-ghost use Rattle.px_draft.specs.Drafts.{IsRefusal, answered, method_by, request_by, status_by};
+ghost use Rattle.px_draft.specs.Edits.{IsRefusal, answered, method_by, request_by, status_by};
 ghost use Rattle.px_draft.specs.Requests.{with_method, with_url};
 ghost use Rattle.px_draft.specs.Words.{name_of, status_of};
 
-use crate::ChangeError;
+use crate::EditError;
 use crate::words::{name_of, status_of};
 use px_message::{Flow, Name, Request, Response, Shared, Status, UrlError, Value};
 use px_text::NoMemory;
@@ -15,7 +15,7 @@ use std::alloc::Global;
 // ---- the request
 
 /// Puts the method.
-pub(crate) fn put_method(alloc: Global, flow: &mut Flow, name: &[u8]) -> Result<(), ChangeError>
+pub(crate) fn put_method(alloc: Global, flow: &mut Flow, name: &[u8]) -> Result<(), EditError>
     ensures put { OnOk result (method_by flow.old (name_of name.now) ≡ Some flow.new) }
     ensures refused { IfErr result (IsRefusal (method_by flow.old (name_of name.now))) }
 {
@@ -23,7 +23,7 @@ pub(crate) fn put_method(alloc: Global, flow: &mut Flow, name: &[u8]) -> Result<
     put_named(alloc, flow, name)
 }
 
-fn put_named(alloc: Global, flow: &mut Flow, name: Name) -> Result<(), ChangeError>
+fn put_named(alloc: Global, flow: &mut Flow, name: Name) -> Result<(), EditError>
     ensures put { OnOk result (request_by flow.old (with_method name flow.old.request) ≡ Some flow.new) }
     ensures refused { IfErr result (IsRefusal (request_by flow.old (with_method name flow.old.request))) }
 {
@@ -32,7 +32,7 @@ fn put_named(alloc: Global, flow: &mut Flow, name: Name) -> Result<(), ChangeErr
     Ok(())
 }
 
-fn share_named(alloc: Global, request: &Request, name: Name) -> Result<Shared<Request>, ChangeError>
+fn share_named(alloc: Global, request: &Request, name: Name) -> Result<Shared<Request>, EditError>
     ensures ok { IfOk result (λ shared. with_method name request.now ≡ Some shared) }
     ensures refused { IfErr result (IsRefusal (with_method name request.now)) }
 {
@@ -40,19 +40,19 @@ fn share_named(alloc: Global, request: &Request, name: Name) -> Result<Shared<Re
     Ok(Shared::new(alloc, changed)?)
 }
 
-fn named(request: &Request, name: Name) -> Result<Request, ChangeError>
+fn named(request: &Request, name: Name) -> Result<Request, EditError>
     ensures ok { IfOk result (λ changed. with_method name request.now ≡ Some changed) }
     ensures refused { IfErr result (IsRefusal (with_method name request.now)) }
 {
     let mut changed = request.try_clone()?;
     match changed.set_method(name) {
         Ok(()) => Ok(changed),
-        Err(_) => Err(ChangeError::BadValue),
+        Err(_) => Err(EditError::BadValue),
     }
 }
 
 /// Puts the URL: host, port and path.
-pub(crate) fn put_url(alloc: Global, flow: &mut Flow, text: &[u8]) -> Result<(), ChangeError>
+pub(crate) fn put_url(alloc: Global, flow: &mut Flow, text: &[u8]) -> Result<(), EditError>
     ensures put { OnOk result (request_by flow.old (with_url text.now flow.old.request) ≡ Some flow.new) }
     ensures refused { IfErr result (IsRefusal (request_by flow.old (with_url text.now flow.old.request))) }
 {
@@ -65,32 +65,32 @@ fn share_located(
     alloc: Global,
     request: &Request,
     text: &[u8],
-) -> Result<Shared<Request>, ChangeError>
+) -> Result<Shared<Request>, EditError>
     ensures ok { IfOk result (λ shared. with_url text.now request.now ≡ Some shared) }
     ensures refused { IfErr result (IsRefusal (with_url text.now request.now)) }
 {
     let mut changed = request.try_clone()?;
     match changed.set_url(text) {
         Ok(()) => Ok(Shared::new(alloc, changed)?),
-        Err(UrlError::NotPlainHttp) => Err(ChangeError::BadValue),
-        Err(UrlError::NoMemory) => Err(ChangeError::NoMemory),
+        Err(UrlError::NotPlainHttp) => Err(EditError::BadValue),
+        Err(UrlError::NoMemory) => Err(EditError::NoMemory),
     }
 }
 
 // ---- the response
 
 /// Puts the status, with its reason in the table or none.
-pub(crate) fn put_status(alloc: Global, flow: &mut Flow, text: &[u8]) -> Result<(), ChangeError>
+pub(crate) fn put_status(alloc: Global, flow: &mut Flow, text: &[u8]) -> Result<(), EditError>
     ensures put { OnOk result (status_by flow.old (status_of text.now) ≡ Some flow.new) }
     ensures refused { IfErr result (IsRefusal (status_by flow.old (status_of text.now))) }
 {
     match status_of(text) {
         Some(status) => put_code(alloc, flow, status),
-        None => Err(ChangeError::BadValue),
+        None => Err(EditError::BadValue),
     }
 }
 
-fn put_code(alloc: Global, flow: &mut Flow, status: Status) -> Result<(), ChangeError>
+fn put_code(alloc: Global, flow: &mut Flow, status: Status) -> Result<(), EditError>
     ensures put { OnOk result (status_by flow.old (Some status) ≡ Some flow.new) }
     ensures refused { IfErr result (IsRefusal (status_by flow.old (Some status))) }
 {

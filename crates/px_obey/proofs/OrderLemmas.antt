@@ -14,7 +14,7 @@ use Rattle.px_core.specs.declared.table.Conversations.{Conversations}
 use Rattle.px_core.specs.Answers.{Answering, AnswererState, Failing, FilesAfter, FilesMeaning}
 use Rattle.px_core.specs.Course.{Course, with_operation}
 use Rattle.px_core.specs.Due.{Due}
-use Rattle.px_core.specs.Router.{IsNow, IsTabled, MovesBy, TableStands, caused_in, operated_on, refusal}
+use Rattle.px_core.specs.Router.{IsJudged, IsNow, IsTabled, MovesBy, TableStands, caused_in, operated_on}
 use Rattle.px_core.specs.Run.{AddsSteps, BreaksOff}
 use Rattle.px_core.proofs.OperateRunLemmas.{any_tellable}
 use Rattle.px_view.specs.declared.answer.OperatorAnswer.TheVariants as answer
@@ -48,6 +48,11 @@ is_ran_out _ = false
 
 pub other_than : (error given : OperateError) → is_ran_out given ≡ false → error ≡ given → error ≢ refused.NoMemory
 other_than error given never is ran = let wrong_way : true ≡ false = sym (ap is_ran_out ran) ∙ (ap is_ran_out is ∙ never) in cc
+
+-- the refusal is what it was found to be
+pub judged_as : {S : Type 0} {answers : Answering S} {due : Due} {course : Course S} {now : AnswererState S} {names : List (List ℕ)} {trace : Trace} {operation : Operation} {error given : OperateError} →
+    error ≡ given → IsJudged answers due course now names trace operation (Some error) → IsJudged answers due course now names trace operation (Some given)
+judged_as same judged = record { pending = judged.pending; answered = judged.answered; is = judged.is ∙ ap Some same }
 
 -- a line that is none, unless memory ran out
 is_wrong : (error : CommandError) (text : List ℕ) → (error ≡ wrong.NoMemory) ⊎ (order_of text ≡ Err error) → error ≢ wrong.NoMemory → order_of text ≡ Err error
@@ -99,7 +104,7 @@ module _ {S : Type 0} {answers : Answering S} {drops : List ℕ → S → S → 
   -- an operation was done
   pub goes_operated : {Before After : StandingFor S} {moment : ℕ} {old new : AnswererState S} {net after : Option Trace} {taken new_taken : List Flow} (operation : Operation) →
       ((due : Due) (course : Course S) (trace : Trace) → Before due course trace → IsNow moment trace → AddsSteps (After due (operated_on course trace operation old new)) operation trace net after) →
-      ((due : Due) (course : Course S) (trace : Trace) → Before due course trace → refusal operation (names old.own) trace ≡ None) →
+      ((due : Due) (course : Course S) (trace : Trace) → Before due course trace → IsJudged answers due course old (names old.own) trace operation None) →
       MovesBy answers drops operation old new → TakesAll net after taken new_taken →
       GoesOver answers drops (λ due first more last. Obeys answers drops names due (order.Act operation) first more (answer_text answer.Done) last) Before After moment old new net after taken new_taken
   goes_operated {Before} {After} {moment} {old} {new} {net} {after} {taken} {new_taken} operation adds done moves takes = record {
@@ -121,7 +126,7 @@ module _ {S : Type 0} {answers : Answering S} {drops : List ℕ → S → S → 
 
   -- it was refused
   pub goes_refused : {Before After : StandingFor S} {moment : ℕ} {old new : AnswererState S} {net after : Option Trace} {taken new_taken : List Flow} (operation : Operation) (error : OperateError) →
-      ((due : Due) (course : Course S) (trace : Trace) → Before due course trace → refusal operation (names old.own) trace ≡ Some error) →
+      ((due : Due) (course : Course S) (trace : Trace) → Before due course trace → IsJudged answers due course old (names old.own) trace operation (Some error)) →
       ((due : Due) (course : Course S) (trace : Trace) → Before due course trace → After due course trace) → new ≡ old → after ≡ net → new_taken ≡ taken →
       GoesOver answers drops (λ due first more last. Obeys answers drops names due (order.Act operation) first more (refused_text error) last) Before After moment old new net after taken new_taken
   goes_refused {Before} {After} {moment} {old} operation error why keeps same told held =

@@ -19,7 +19,7 @@ use Rattle.px_core.specs.Answers.{Answering, AnswererState, Failing, FilesAfter,
 use Rattle.px_core.specs.Course.{Course, with_operation}
 use Rattle.px_core.specs.Due.{Due}
 use Rattle.px_core.specs.Live.{AreLive, IsLastAsked, is_live}
-use Rattle.px_core.specs.Router.{AllOfAny, IsNow, MovesBy, caused_in, operated_on, refusal}
+use Rattle.px_core.specs.Router.{AllOfAny, IsJudged, IsNow, MovesBy, caused_in, operated_on}
 use Rattle.px_view.specs.declared.answer.OperatorAnswer.{OperatorAnswer}
 use Rattle.px_view.specs.declared.answer.OperatorAnswer.TheVariants as answer
 use Rattle.px_view.specs.declared.command.CommandError.{CommandError}
@@ -60,6 +60,8 @@ list_text list = flat_map state_text list ++ answer_text answer.End
 abbrev pub refused_text : OperateError → List ℕ
 refused_text refused.NoSuchFlow = answer_text answer.NoSuchFlow
 refused_text refused.NotWaiting = answer_text answer.NotWaiting
+refused_text refused.NotThere = answer_text answer.NotThere
+refused_text refused.BadValue = answer_text answer.BadValue
 refused_text refused.NoSuchAddon = answer_text answer.NoSuchAddon
 refused_text refused.NoMemory = []
 
@@ -90,10 +92,10 @@ module _ {S : Type 0} (answers : Answering S) (drops : List ℕ → S → S → 
     shows_none : (at : Point S) (id : FlowId) → is_live id at.trace ≡ false → Obeys (order.Show id) at [] (answer_text answer.NoSuchFlow) at
     gives : (at : Point S) (id : FlowId) (from : ℕ) (flow : Flow) → is_live id at.trace ≡ true → IsLastAsked answers due at.course at.trace id flow → Obeys (order.Entry id from) at [] (entry_line from flow) at
     gives_none : (at : Point S) (id : FlowId) (from : ℕ) → is_live id at.trace ≡ false → Obeys (order.Entry id from) at [] (answer_text answer.NoSuchFlow) at
-    operates : (at next : Point S) (operation : Operation) (caused : List Step) → refusal operation (names at.now.own) at.trace ≡ None → AllOfAny (caused_in operation) caused →
+    operates : (at next : Point S) (operation : Operation) (caused : List Step) → IsJudged answers due at.course at.now (names at.now.own) at.trace operation None → AllOfAny (caused_in operation) caused →
         MovesBy answers drops operation at.now next.now → next.trace ≡ at.trace ++ caused → next.course ≡ operated_on at.course at.trace operation at.now next.now →
         Obeys (order.Act operation) at caused (answer_text answer.Done) next
-    refuses : (at : Point S) (operation : Operation) (error : OperateError) → refusal operation (names at.now.own) at.trace ≡ Some error → Obeys (order.Act operation) at [] (refused_text error) at
+    refuses : (at : Point S) (operation : Operation) (error : OperateError) → IsJudged answers due at.course at.now (names at.now.own) at.trace operation (Some error) → Obeys (order.Act operation) at [] (refused_text error) at
     quits : (at : Point S) → Obeys order.Quit at [] (answer_text answer.Bye) at
 
   module _ (conv : ℕ) where

@@ -86,6 +86,8 @@ fn act<C: Owes, A: Answerer, F: Files, N: Net, T: Taker>(
         Ok(()) => Ok(OperatorAnswer::Done),
         Err(OperateError::NoSuchFlow) => Ok(OperatorAnswer::NoSuchFlow),
         Err(OperateError::NotWaiting) => Ok(OperatorAnswer::NotWaiting),
+        Err(OperateError::NotThere) => Ok(OperatorAnswer::NotThere),
+        Err(OperateError::BadValue) => Ok(OperatorAnswer::BadValue),
         Err(OperateError::NoSuchAddon) => Ok(OperatorAnswer::NoSuchAddon),
         Err(OperateError::NoMemory) => Err(NoMemory),
     }

@@ -7,6 +7,7 @@ use Rattle.px_message.specs.declared.address.Address.{Address}
 use Rattle.px_message.specs.declared.flow.Flow.{Flow}
 use Rattle.px_event.specs.declared.ask.Hook.{Hook}
 use Rattle.px_event.specs.declared.reply.Reply.{Reply}
+use Rattle.px_event.specs.declared.reply.Reply.TheVariants as replies
 use Rattle.px_event.specs.declared.side.Side.{Side}
 use Rattle.px_event.specs.declared.side.Side.TheVariants.{Client, Server}
 use Rattle.px_event.specs.declared.step.Step.TheVariants as steps
@@ -18,7 +19,7 @@ use Rattle.px_event.proofs.LineLemmas.{bytes_begin}
 use Rattle.px_core.specs.Calls.{Calls as CallsOf, calls}
 use Rattle.px_core.specs.Due.{Due, due_at, due_by, due_in, IsWithinDue, EndsMet}
 use Rattle.px_core.specs.Answers.{Answering, FilesMeaning}
-use Rattle.px_core.specs.Drafts.{ComesTo}
+use Rattle.px_core.specs.Drafts.{ComesTo, edited_by}
 use Rattle.px_core.specs.Unmarked.{all_unmarked}
 use Rattle.px_core.specs.declared.answerer.Answer.{Answer}
 use Rattle.px_core.specs.declared.answerer.Answer.TheVariants as answer
@@ -57,16 +58,19 @@ abbrev pub ConnectsNone : {S : Type 0} → Answering S → Type 0
 ConnectsNone {S} answers = (hook : Hook) (flow : Flow) (old : S) (old_files : FilesMeaning) (new : S) (new_files : FilesMeaning) (reply : Reply) →
     answers hook flow old old_files new new_files (answer.Reply reply) → connects reply ≡ 0
 
+killed_connects : (reply : Reply) → reply ≡ replies.Kill → connects reply ≡ 0
+killed_connects reply is = ap connects is
+
 no_dial_answered : {S : Type 0} (answers : Answering S) → ConnectsNone answers → (due : Due) (trace : Trace) → Always (EndsMet answers due) trace → NoDialAnswered trace
 no_dial_answered answers none due trace met prefix rest conv ask reply is =
     let step = steps.Answered conv ask reply in
     let m = met.at (prefix ++ step ∷ []) rest (is ∙ sym (append_assoc prefix (step ∷ []) rest)) prefix conv ask reply refl in
-    by m.given m.comes (λ said is_said. none m.hook m.flow m.old m.old_files m.new m.new_files said (subst (answers m.hook m.flow m.old m.old_files m.new m.new_files) is_said m.answers_so))
+    by m.hook m.given m.comes (λ said is_said. none m.hook m.flow m.old m.old_files m.new m.new_files said (subst (answers m.hook m.flow m.old m.old_files m.new m.new_files) is_said m.answers_so))
   where
-    by : (given : Answer) → ComesTo given reply → ((said : Reply) → given ≡ answer.Reply said → connects said ≡ 0) → connects reply ≡ 0
-    by (answer.Reply said) comes here = ap connects (sym comes) ∙ here said refl
-    by (answer.Wait draft) (inl comes) here = ap connects comes ∙ no_verdict_connects draft.verdict draft.flow draft.stream
-    by (answer.Wait draft) (inr comes) here = ap connects comes
+    by : (hook : Hook) (given : Answer) → ComesTo hook given reply → ((said : Reply) → given ≡ answer.Reply said → connects said ≡ 0) → connects reply ≡ 0
+    by hook (answer.Reply said) comes here = ap connects (sym comes) ∙ here said refl
+    by hook (answer.Wait draft) (inl (changes, comes)) here = ap connects comes ∙ no_verdict_connects draft.verdict (edited_by hook changes draft).flow draft.stream
+    by hook (answer.Wait draft) (inr killed) here = killed_connects reply killed
 
 -- marks are in no bytes
 bytes_within : (a b : List Atom) → IsPrefixOf (all_unmarked a) (all_unmarked b) → IsPrefixOf (bytes_in a) (bytes_in b)

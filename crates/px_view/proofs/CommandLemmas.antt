@@ -9,7 +9,7 @@ use Rattle.std.proofs.lemmas.Grind.{common_steps}
 use Rattle.px_view.specs.declared.command.Order.{Order}
 use Rattle.px_view.specs.declared.command.CommandError.{CommandError}
 use Rattle.px_view.specs.declared.command.CommandError.TheVariants as error
-use Rattle.px_view.specs.Commands.{flow_id, id_around, id_with, is_blank, is_dot, lone_order, order_of, order_of_words, small_number}
+use Rattle.px_view.specs.Commands.{flow_id, id_around, id_with, is_blank, is_dot, lone_order, order_of, order_of_words, plain_order, small_number}
 
 -- a slice that goes to the end
 pub tail_is : (text : List ℕ) (n : ℕ) → take (length text - n) (drop n text) ≡ drop n text
@@ -44,7 +44,7 @@ words_some line r at found some =
     some_by line at _ refl (sym found ∙ some)
     ∙ ap (λ (t : List ℕ). take at line ∷ slice_split is_blank t) (sym (tail_is line (at + 1)))
 
-four_words : (word name place : List ℕ) (words : List (List ℕ)) → 0 < length words → order_of_words (word ∷ name ∷ place ∷ words) ≡ Err error.UnknownCommand
+four_words : (word name place : List ℕ) (words : List (List ℕ)) → 0 < length words → plain_order word name (place ∷ words) ≡ Err error.UnknownCommand
 four_words word name place [] some = absurd (omega arith)
 four_words word name place (more ∷ others) some = refl
 
@@ -59,9 +59,9 @@ split_some (b ∷ text) = parts_some b (is_blank b) (slice_split is_blank text) 
 
 -- a word more is no command
 pub more_words : (word name rest : List ℕ) (r : Option ℕ) (at : ℕ) → r ≡ position is_blank rest → r ≡ Some at
-    → order_of_words (word ∷ name ∷ slice_split is_blank rest) ≡ Err error.UnknownCommand
+    → plain_order word name (slice_split is_blank rest) ≡ Err error.UnknownCommand
 more_words word name rest r at found some =
-    ap (λ (words : List (List ℕ)). order_of_words (word ∷ name ∷ words)) (words_some rest r at found some)
+    ap (λ (words : List (List ℕ)). plain_order word name words) (words_some rest r at found some)
     ∙ four_words word name (take at rest) (slice_split is_blank (take (length rest - (at + 1)) (drop (at + 1) rest))) (split_some (take (length rest - (at + 1)) (drop (at + 1) rest)))
 
 -- what a reader of one definition gives is that of an equal one

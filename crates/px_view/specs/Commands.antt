@@ -1,8 +1,10 @@
 -- An operator's line as an order.
-use Rattle.std.specs.Prelude.{ℕ, ◌^◌, ◌+◌, Bool, ◌&&◌, ◌==◌, nat_lt, if◌then◌else◌, List, [], ◌∷◌, take, drop, bytes_eq, codes, decimal, position, Option, Some, None, option_map, option_and_then, Result, Ok, Err}
+use Rattle.std.specs.Prelude.{ℕ, ◌^◌, ◌+◌, Bool, ◌&&◌, ◌==◌, nat_lt, if◌then◌else◌, List, [], ◌∷◌, take, drop, bytes_eq, codes, true, false, decimal, position, Option, Some, None, option_map, option_and_then, Result, Ok, Err}
 use Rattle.std.specs.List.{slice_split}
 use Rattle.px_text.specs.Number.{decimal_value}
 use Rattle.px_message.specs.declared.flow.FlowId.{FlowId}
+use Rattle.px_draft.specs.declared.edit.Edit.{Edit}
+use Rattle.px_draft.specs.Changes.{change_of_words}
 use Rattle.px_core.specs.declared.operation.Operation.TheVariants as operation
 use Rattle.px_view.specs.declared.command.Order.{Order}
 use Rattle.px_view.specs.declared.command.Order.TheVariants as order
@@ -75,13 +77,28 @@ triple_order word name place =
     if bytes_eq word (codes "entry") then part_order (flow_id name) (place_number place)
     else Err error.UnknownCommand
 
--- the order of these words; another number of words is no command
+-- that change of the draft of that flow; where the words say no change, that comes first
+abbrev pub edit_order : Option Edit → Option FlowId → Result Order CommandError
+edit_order None flow = Err error.UnknownCommand
+edit_order (Some edit) None = Err error.BadNumber
+edit_order (Some edit) (Some id) = Ok (order.Act (operation.Edit id edit))
+
+-- a word, the next, and the words behind these; another number of words is no command
+abbrev pub plain_order : List ℕ → List ℕ → List (List ℕ) → Result Order CommandError
+plain_order word name [] = pair_order word name
+plain_order word name (place ∷ []) = triple_order word name place
+plain_order word name (place ∷ more ∷ others) = Err error.UnknownCommand
+
+-- where the first word is `edit`, the words behind the flow's name say the change
+abbrev pub order_by : Bool → List ℕ → List ℕ → List (List ℕ) → Result Order CommandError
+order_by true word name words = edit_order (change_of_words words) (flow_id name)
+order_by false word name words = plain_order word name words
+
+-- the order of these words
 abbrev pub order_of_words : List (List ℕ) → Result Order CommandError
 order_of_words [] = Err error.UnknownCommand
 order_of_words (word ∷ []) = lone_order word
-order_of_words (word ∷ name ∷ []) = pair_order word name
-order_of_words (word ∷ name ∷ place ∷ []) = triple_order word name place
-order_of_words (word ∷ name ∷ place ∷ more ∷ others) = Err error.UnknownCommand
+order_of_words (word ∷ name ∷ words) = order_by (bytes_eq word (codes "edit")) word name words
 
 -- the order of a line, whose words are what stands between its spaces
 abbrev pub order_of : List ℕ → Result Order CommandError

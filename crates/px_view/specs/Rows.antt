@@ -1,6 +1,7 @@
 -- Lines and what they are, row by row.
 use Rattle.std.specs.Prelude.{◌≡◌, [], codes, Ok, Err}
 use Rattle.px_core.specs.declared.operation.Operation.TheVariants as operation
+use Rattle.px_draft.specs.declared.edit.Edit.TheVariants as change
 use Rattle.px_view.specs.declared.command.Order.TheVariants as order
 use Rattle.px_view.specs.declared.command.CommandError.TheVariants as error
 use Rattle.px_view.specs.Commands.{order_of}
@@ -32,3 +33,12 @@ pub record RowsHold : Type 0 where
   pub entry_leading_zero : order_of (codes "entry 1.2 00") ≡ Err error.BadNumber
   pub entry_too_large : order_of (codes "entry 1.2 18446744073709551616") ≡ Err error.BadNumber
   pub show_word_more : order_of (codes "show 1.2 0") ≡ Err error.UnknownCommand
+  pub edit_method : order_of (codes "edit 1.2 method PUT") ≡ Ok (order.Act (operation.Edit record { conv = 1; index = 2 } (change.Method (codes "PUT"))))
+  pub edit_set : order_of (codes "edit 1.2 set A Yg==") ≡ Ok (order.Act (operation.Edit record { conv = 1; index = 2 } (change.Set (codes "A") (codes "Yg=="))))
+  pub edit_body : order_of (codes "edit 1.2 body") ≡ Ok (order.Act (operation.Edit record { conv = 1; index = 2 } change.ClearBody))
+  pub edit_nothing : order_of (codes "edit 1.2 more ") ≡ Ok (order.Act (operation.Edit record { conv = 1; index = 2 } (change.More [])))
+  pub edit_no_change : order_of (codes "edit 1.2") ≡ Err error.UnknownCommand
+  pub edit_other_change : order_of (codes "edit 1 path /") ≡ Err error.UnknownCommand
+  pub edit_word_more : order_of (codes "edit 1 body x") ≡ Err error.UnknownCommand
+  pub edit_one_number : order_of (codes "edit 1 body") ≡ Err error.BadNumber
+  pub edit_two_spaces : order_of (codes "edit 1.2  body") ≡ Err error.UnknownCommand

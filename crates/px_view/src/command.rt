@@ -2,13 +2,15 @@
 //!
 //! Words are what stands between single spaces, so two spaces have an empty word between them. Whatever has no form is
 //! refused, and nothing is guessed.
-ghost use Rattle.std.specs.Prelude.{◌≡◌, ◌⊎◌, ◌∷◌, Some, None, Ok, Err, IfOk, IfErr, position};
+ghost use Rattle.std.specs.Prelude.{◌≡◌, ◌⊎◌, ◌∷◌, [], Some, None, Ok, Err, IfOk, IfErr, position};
 ghost use Rattle.std.specs.List.{slice_split};
 ghost use Rattle.px_view.specs.declared.command.CommandError.TheVariants as error;
-ghost use Rattle.px_view.specs.Commands.{flow_id, is_blank, is_dot, lone_order, order_of, order_of_words, pair_order, part_order, place_number, small_number, triple_order};
+ghost use Rattle.px_draft.specs.Changes.{change_of};
+ghost use Rattle.px_view.specs.Commands.{edit_order, flow_id, is_blank, is_dot, lone_order, order_of, order_of_words, pair_order, part_order, place_number, plain_order, small_number, triple_order};
 
 use itoa::Buffer;
 use px_core::Operation;
+use px_draft::{Edit, ReadError, read_edit};
 use px_message::FlowId;
 use px_text::{Bytes, NoMemory, read_decimal};
 use std::alloc::Global;
@@ -31,7 +33,7 @@ pub enum Order {
 /// Why a line is no order.
 #[derive(Clone, Copy, Debug, PartialEq, Eq)]
 pub enum CommandError {
-    /// Its first word is no command, or the command has another number of words.
+    /// Its first word is no command, or the command has another number of words; or behind `edit` and the word for a flow no change is said.
     UnknownCommand,
     /// The word for a flow names none, or the word for a place is no number.
     BadNumber,
@@ -83,14 +85,63 @@ fn read_behind(alloc: Global, word: &[u8], rest: &[u8]) -> Result<Order, Command
     ensures refused { IfErr result (λ e. (e ≡ error.NoMemory) ⊎ (order_of_words (word.now ∷ slice_split is_blank rest.now) ≡ Err e)) }
 {
     match blank_in(rest) {
-        None => read_pair(alloc, word, rest),
-        Some(blank) => read_more(word, &rest[..blank], &rest[blank + 1..]),
+        None => read_two(alloc, word, rest),
+        Some(blank) => read_more(alloc, word, &rest[..blank], &rest[blank + 1..]),
+    }
+}
+
+// Two words, behind which nothing stands.
+fn read_two(alloc: Global, word: &[u8], name: &[u8]) -> Result<Order, CommandError>
+    ensures ok { IfOk result (λ order. order_of_words (word.now ∷ name.now ∷ []) ≡ Ok order) }
+    ensures refused { IfErr result (λ e. (e ≡ error.NoMemory) ⊎ (order_of_words (word.now ∷ name.now ∷ []) ≡ Err e)) }
+{
+    if word == b"edit".as_slice() {
+        Err(CommandError::UnknownCommand)
+    } else {
+        read_pair(alloc, word, name)
     }
 }
 
 // A first word, the next, and what stands behind the space behind it.
-fn read_more(word: &[u8], name: &[u8], rest: &[u8]) -> Result<Order, CommandError>
-    ensures { result ≡ order_of_words (word.now ∷ name.now ∷ slice_split is_blank rest.now) }
+fn read_more(alloc: Global, word: &[u8], name: &[u8], rest: &[u8]) -> Result<Order, CommandError>
+    ensures ok { IfOk result (λ order. order_of_words (word.now ∷ name.now ∷ slice_split is_blank rest.now) ≡ Ok order) }
+    ensures refused { IfErr result (λ e. (e ≡ error.NoMemory) ⊎ (order_of_words (word.now ∷ name.now ∷ slice_split is_blank rest.now) ≡ Err e)) }
+{
+    if word == b"edit".as_slice() {
+        read_change(alloc, name, rest)
+    } else {
+        read_plain(word, name, rest)
+    }
+}
+
+// The change of a flow's draft that stands behind the flow's name.
+fn read_change(alloc: Global, name: &[u8], rest: &[u8]) -> Result<Order, CommandError>
+    ensures ok { IfOk result (λ order. edit_order (change_of rest.now) (flow_id name.now) ≡ Ok order) }
+    ensures refused { IfErr result (λ e. (e ≡ error.NoMemory) ⊎ (edit_order (change_of rest.now) (flow_id name.now) ≡ Err e)) }
+{
+    match read_edit(alloc, rest) {
+        Ok(edit) => edit_of(read_id(name), edit),
+        Err(ReadError::UnknownCommand) => Err(CommandError::UnknownCommand),
+        Err(ReadError::NoMemory) => Err(CommandError::NoMemory),
+    }
+}
+
+// That change of that flow's draft.
+fn edit_of(flow: Option<FlowId>, edit: Edit) -> Result<Order, CommandError>
+    ensures { result ≡ edit_order (Some edit) flow }
+{
+    match flow {
+        Some(id) => Ok(Order::Act(Operation::Edit(id, edit))),
+        None => {
+            drop(edit);
+            Err(CommandError::BadNumber)
+        }
+    }
+}
+
+// A first word that is not `edit`, the next, and what stands behind the space behind it.
+fn read_plain(word: &[u8], name: &[u8], rest: &[u8]) -> Result<Order, CommandError>
+    ensures { result ≡ plain_order word.now name.now (slice_split is_blank rest.now) }
 {
     match blank_in(rest) {
         None => read_triple(word, name, rest),

@@ -1,4 +1,5 @@
-use Rattle.std.proofs.Common.{Some, ap, sym, ◌∙◌}
+use Rattle.std.proofs.Common.{sym, ◌∙◌}
+use Rattle.px_core.proofs.EditLemmas.{refused_as}
 use Rattle.px_core.proofs.OperateRunLemmas.{if_err_all}
 use Rattle.px_core.proofs.work.operate_over.Goals as goal
 
@@ -14,12 +15,25 @@ returns-in-Err-NoMemory-clause-breaks g c = λ due course trace told stands now 
 
 pub returns-in-Err-NoSuchFlow-clause-refused : goal.returns-in-Err-NoSuchFlow-clause-refused
 returns-in-Err-NoSuchFlow-clause-refused g c = λ due course trace stands other.
-    c.in-Err-NoSuchFlow.ensures.refused due course trace stands (λ same. other (sym c.in-Err-NoSuchFlow.field-0-is ∙ same)) ∙ ap Some c.in-Err-NoSuchFlow.field-0-is
+    refused_as g.A.Answerer.answers due (g.A.Answerer.names (g.A.Answerer.state c.args.router.now.answerer)) trace c.args.operation.now _ _ c.in-Err-NoSuchFlow.field-0-is
+    (c.in-Err-NoSuchFlow.ensures.refused due course trace stands (λ same. other (sym c.in-Err-NoSuchFlow.field-0-is ∙ same)))
 
 pub returns-in-Err-NotWaiting-clause-refused : goal.returns-in-Err-NotWaiting-clause-refused
 returns-in-Err-NotWaiting-clause-refused g c = λ due course trace stands other.
-    c.in-Err-NotWaiting.ensures.refused due course trace stands (λ same. other (sym c.in-Err-NotWaiting.field-0-is ∙ same)) ∙ ap Some c.in-Err-NotWaiting.field-0-is
+    refused_as g.A.Answerer.answers due (g.A.Answerer.names (g.A.Answerer.state c.args.router.now.answerer)) trace c.args.operation.now _ _ c.in-Err-NotWaiting.field-0-is
+    (c.in-Err-NotWaiting.ensures.refused due course trace stands (λ same. other (sym c.in-Err-NotWaiting.field-0-is ∙ same)))
+
+pub returns-in-Err-NotThere-clause-refused : goal.returns-in-Err-NotThere-clause-refused
+returns-in-Err-NotThere-clause-refused g c = λ due course trace stands other.
+    refused_as g.A.Answerer.answers due (g.A.Answerer.names (g.A.Answerer.state c.args.router.now.answerer)) trace c.args.operation.now _ _ c.in-Err-NotThere.field-0-is
+    (c.in-Err-NotThere.ensures.refused due course trace stands (λ same. other (sym c.in-Err-NotThere.field-0-is ∙ same)))
+
+pub returns-in-Err-BadValue-clause-refused : goal.returns-in-Err-BadValue-clause-refused
+returns-in-Err-BadValue-clause-refused g c = λ due course trace stands other.
+    refused_as g.A.Answerer.answers due (g.A.Answerer.names (g.A.Answerer.state c.args.router.now.answerer)) trace c.args.operation.now _ _ c.in-Err-BadValue.field-0-is
+    (c.in-Err-BadValue.ensures.refused due course trace stands (λ same. other (sym c.in-Err-BadValue.field-0-is ∙ same)))
 
 pub returns-in-Err-NoSuchAddon-clause-refused : goal.returns-in-Err-NoSuchAddon-clause-refused
 returns-in-Err-NoSuchAddon-clause-refused g c = λ due course trace stands other.
-    c.in-Err-NoSuchAddon.ensures.refused due course trace stands (λ same. other (sym c.in-Err-NoSuchAddon.field-0-is ∙ same)) ∙ ap Some c.in-Err-NoSuchAddon.field-0-is
+    refused_as g.A.Answerer.answers due (g.A.Answerer.names (g.A.Answerer.state c.args.router.now.answerer)) trace c.args.operation.now _ _ c.in-Err-NoSuchAddon.field-0-is
+    (c.in-Err-NoSuchAddon.ensures.refused due course trace stands (λ same. other (sym c.in-Err-NoSuchAddon.field-0-is ∙ same)))

@@ -1,5 +1,5 @@
 use Rattle.std.proofs.Common.{◌∙◌, sym, ap}
-use Rattle.px_draft.specs.Drafts.{request_by}
+use Rattle.px_draft.specs.Edits.{request_by}
 use Rattle.px_draft.specs.Requests.{with_method}
 use Rattle.px_draft.proofs.messages.put_named.Goals as goal
 

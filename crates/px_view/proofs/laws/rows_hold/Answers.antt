@@ -31,4 +31,13 @@ returns c = record {
   entry_leading_zero = refl;
   entry_too_large = refl;
   show_word_more = refl;
+  edit_method = refl;
+  edit_set = refl;
+  edit_body = refl;
+  edit_nothing = refl;
+  edit_no_change = refl;
+  edit_other_change = refl;
+  edit_word_more = refl;
+  edit_one_number = refl;
+  edit_two_spaces = refl;
 }

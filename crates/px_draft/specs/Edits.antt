@@ -7,11 +7,11 @@ use Rattle.px_message.specs.declared.request.Request.{Request}
 use Rattle.px_message.specs.declared.response.Response.{Response}
 use Rattle.px_event.specs.declared.ask.Hook.{Hook}
 use Rattle.px_write.specs.Short.{reason_of}
-use Rattle.px_draft.specs.declared.change.Change.{Change}
-use Rattle.px_draft.specs.declared.change.Change.TheVariants as change
-use Rattle.px_draft.specs.declared.draft.Draft.{Draft}
-use Rattle.px_draft.specs.declared.error.ChangeError.{ChangeError}
-use Rattle.px_draft.specs.declared.error.ChangeError.TheVariants as error
+use Rattle.px_draft.specs.declared.edit.Edit.{Edit}
+use Rattle.px_draft.specs.declared.edit.Edit.TheVariants as change
+use Rattle.px_draft.specs.declared.edited.Edited.{Edited}
+use Rattle.px_draft.specs.declared.error.EditError.{EditError}
+use Rattle.px_draft.specs.declared.error.EditError.TheVariants as error
 use Rattle.px_draft.specs.declared.given.Given.{Given}
 use Rattle.px_draft.specs.declared.given.Given.TheVariants as givens
 use Rattle.px_draft.specs.declared.given.Placing.{Placing}
@@ -23,7 +23,7 @@ use Rattle.px_draft.specs.Subjects.{Fields, change_fields, fields_in, has_body, 
 use Rattle.px_draft.specs.Words.{bytes_of, name_of, status_of, value_of}
 
 -- the draft of a flow that no line has changed
-abbrev pub fresh : Hook → Flow → Draft
+abbrev pub fresh : Hook → Flow → Edited
 fresh hook flow = record { hook = hook; flow = flow; given = givens.Nothing }
 
 -- ---- what is open
@@ -40,15 +40,15 @@ put_in subject (givens.Field placing name value) flow = change_fields subject (p
 put_in subject (givens.Body bytes) flow = with_body subject bytes flow
 
 -- the flow that a draft has: with it a hook is answered
-abbrev pub flow_of : Draft → Flow
+abbrev pub flow_of : Edited → Flow
 flow_of draft = put_in (subject_of draft.hook) draft.given draft.flow
 
 -- the draft with another flow, and nothing open
-abbrev pub turned : Draft → Flow → Draft
+abbrev pub turned : Edited → Flow → Edited
 turned draft flow = record draft { flow = flow; given = givens.Nothing }
 
 -- the draft where the last line gave this
-abbrev pub gives : Draft → Given → Draft
+abbrev pub gives : Edited → Given → Edited
 gives draft given = record draft { flow = flow_of draft; given = given }
 
 -- ---- whether a change is there to be made
@@ -67,7 +67,7 @@ goes_on givens.Nothing = false
 goes_on _ = true
 
 -- the hook is about what the change is about
-abbrev pub is_there : Change → Draft → Bool
+abbrev pub is_there : Edit → Edited → Bool
 is_there (change.Method name) draft = is_at_request (subject_of draft.hook)
 is_there (change.Url text) draft = is_at_request (subject_of draft.hook)
 is_there (change.Status code) draft = is_at_response (subject_of draft.hook) draft.flow
@@ -116,11 +116,11 @@ more_by (givens.Field placing name value) (Some bytes) =
     if is_value (value ++ bytes) then Some (givens.Field placing name (value ++ bytes)) else None
 more_by (givens.Body body) (Some bytes) = Some (givens.Body (body ++ bytes))
 
-abbrev pub with_given : Draft → Given → Draft
+abbrev pub with_given : Edited → Given → Edited
 with_given draft given = record draft { given = given }
 
 -- the draft as the change leaves it, or none where one of its words is none of its kind
-abbrev pub made : Change → Draft → Option Draft
+abbrev pub made : Edit → Edited → Option Edited
 made (change.Method name) draft = option_map (turned draft) (method_by (flow_of draft) (name_of name))
 made (change.Url text) draft = option_map (turned draft) (request_by (flow_of draft) (with_url text (flow_of draft).request))
 made (change.Status code) draft = option_map (turned draft) (status_by (flow_of draft) (status_of code))
@@ -130,32 +130,32 @@ made (change.Remove name) draft = option_map (turned draft) (removed_by (subject
 made change.ClearBody draft = Some (gives draft (givens.Body []))
 made (change.More text) draft = option_map (with_given draft) (more_by draft.given (bytes_of text))
 
-abbrev pub judged : Option Draft → Result Draft ChangeError
+abbrev pub judged : Option Edited → Result Edited EditError
 judged None = Err error.BadValue
 judged (Some draft) = Ok draft
 
 -- The draft as a line leaves it, or why the line is refused: first that its hook is about something else, or nothing stands that `more`
 -- goes on with; then that a word is none of its kind.
-abbrev pub changed : Change → Draft → Result Draft ChangeError
+abbrev pub changed : Edit → Edited → Result Edited EditError
 changed change draft = if is_there change draft then judged (made change draft) else Err error.NotThere
 
 -- ---- many lines
 
 -- the draft behind a line: as it was, where the line is refused
-abbrev pub kept : Draft → Result Draft ChangeError → Draft
+abbrev pub kept : Edited → Result Edited EditError → Edited
 kept draft (Ok next) = next
 kept draft (Err refusal) = draft
 
-abbrev pub behind : Draft → Change → Draft
+abbrev pub behind : Edited → Edit → Edited
 behind draft change = kept draft (changed change draft)
 
 -- the draft behind all of them, in their order
-abbrev pub changed_by : List Change → Draft → Draft
+abbrev pub changed_by : List Edit → Edited → Edited
 changed_by [] draft = draft
 changed_by (change ∷ changes) draft = changed_by changes (behind draft change)
 
 -- ---- refusals of calls
 
 -- memory ran out, or a word is none of its kind, and so nothing is made
-abbrev pub IsRefusal : {T : Type 0} → Option T → ChangeError → Type 0
+abbrev pub IsRefusal : {T : Type 0} → Option T → EditError → Type 0
 IsRefusal outcome refusal = (refusal ≡ error.NoMemory) ⊎ ((refusal ≡ error.BadValue) × (outcome ≡ None))

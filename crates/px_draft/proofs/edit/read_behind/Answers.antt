@@ -1,7 +1,7 @@
 use Rattle.std.proofs.Common.{◌∷◌, ap}
 use Rattle.px_draft.specs.Changes.{change_of_words}
 use Rattle.px_draft.proofs.ChangeLemmas.{words_none, words_some, ok_by, err_by}
-use Rattle.px_draft.proofs.change.read_behind.Goals as goal
+use Rattle.px_draft.proofs.edit.read_behind.Goals as goal
 
 pub returns-in-None-clause-ok : goal.returns-in-None-clause-ok
 returns-in-None-clause-ok c =

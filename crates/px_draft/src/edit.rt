@@ -4,7 +4,7 @@
 //! nothing is guessed.
 ghost use Rattle.std.specs.Prelude.{◌≡◌, ◌∷◌, Some, IfOk, IfErr, position};
 ghost use Rattle.std.specs.List.{slice_split};
-ghost use Rattle.px_draft.specs.declared.change.ReadError.TheVariants as error;
+ghost use Rattle.px_draft.specs.declared.edit.ReadError.TheVariants as error;
 ghost use Rattle.px_draft.specs.Changes.{IsNoChange, change_of, change_of_words, is_blank, lone_change, pair_change, triple_change};
 
 use px_text::{Bytes, NoMemory};
@@ -12,7 +12,7 @@ use std::alloc::Global;
 
 /// What a line changes, with its words as they were said.
 #[derive(Debug, Drop, PartialEq, Eq)]
-pub enum Change {
+pub enum Edit {
     /// The request gets this method.
     Method(Bytes),
     /// The request goes to this URL.
@@ -50,7 +50,7 @@ impl From<NoMemory> for ReadError {
 
 /// The change that a text says: what stands in a line `edit ID ..` behind the space behind ID, without the line's end. `UnknownCommand`
 /// exactly where it says none. What its words are worth is judged where the change is made.
-pub fn read_change(alloc: Global, text: &[u8]) -> Result<Change, ReadError>
+pub fn read_edit(alloc: Global, text: &[u8]) -> Result<Edit, ReadError>
     ensures ok { IfOk result (λ change. change_of text.now ≡ Some change) }
     ensures refused { IfErr result (IsNoChange (change_of text.now)) }
 {
@@ -67,19 +67,19 @@ fn blank_in(text: &[u8]) -> Option<usize>
     text.iter().position(|b| *b == b' ')
 }
 
-fn read_lone(word: &[u8]) -> Result<Change, ReadError>
+fn read_lone(word: &[u8]) -> Result<Edit, ReadError>
     ensures ok { IfOk result (λ change. lone_change word.now ≡ Some change) }
     ensures refused { IfErr result (IsNoChange (lone_change word.now)) }
 {
     if word == b"body".as_slice() {
-        Ok(Change::ClearBody)
+        Ok(Edit::ClearBody)
     } else {
         Err(ReadError::UnknownCommand)
     }
 }
 
 // A first word, and what stands behind the space.
-fn read_behind(alloc: Global, word: &[u8], rest: &[u8]) -> Result<Change, ReadError>
+fn read_behind(alloc: Global, word: &[u8], rest: &[u8]) -> Result<Edit, ReadError>
     ensures ok { IfOk result (λ change. change_of_words (word.now ∷ slice_split is_blank rest.now) ≡ Some change) }
     ensures refused { IfErr result (IsNoChange (change_of_words (word.now ∷ slice_split is_blank rest.now))) }
 {
@@ -89,27 +89,27 @@ fn read_behind(alloc: Global, word: &[u8], rest: &[u8]) -> Result<Change, ReadEr
     }
 }
 
-fn read_pair(alloc: Global, word: &[u8], value: &[u8]) -> Result<Change, ReadError>
+fn read_pair(alloc: Global, word: &[u8], value: &[u8]) -> Result<Edit, ReadError>
     ensures ok { IfOk result (λ change. pair_change word.now value.now ≡ Some change) }
     ensures refused { IfErr result (IsNoChange (pair_change word.now value.now)) }
 {
     if word == b"method".as_slice() {
-        Ok(Change::Method(Bytes::copied(alloc, value)?))
+        Ok(Edit::Method(Bytes::copied(alloc, value)?))
     } else if word == b"url".as_slice() {
-        Ok(Change::Url(Bytes::copied(alloc, value)?))
+        Ok(Edit::Url(Bytes::copied(alloc, value)?))
     } else if word == b"status".as_slice() {
-        Ok(Change::Status(Bytes::copied(alloc, value)?))
+        Ok(Edit::Status(Bytes::copied(alloc, value)?))
     } else if word == b"remove".as_slice() {
-        Ok(Change::Remove(Bytes::copied(alloc, value)?))
+        Ok(Edit::Remove(Bytes::copied(alloc, value)?))
     } else if word == b"more".as_slice() {
-        Ok(Change::More(Bytes::copied(alloc, value)?))
+        Ok(Edit::More(Bytes::copied(alloc, value)?))
     } else {
         Err(ReadError::UnknownCommand)
     }
 }
 
 // Two words, and what stands behind the second space.
-fn read_last(alloc: Global, word: &[u8], name: &[u8], rest: &[u8]) -> Result<Change, ReadError>
+fn read_last(alloc: Global, word: &[u8], name: &[u8], rest: &[u8]) -> Result<Edit, ReadError>
     ensures ok { IfOk result (λ change. change_of_words (word.now ∷ name.now ∷ slice_split is_blank rest.now) ≡ Some change) }
     ensures refused { IfErr result (IsNoChange (change_of_words (word.now ∷ name.now ∷ slice_split is_blank rest.now))) }
 {
@@ -119,18 +119,18 @@ fn read_last(alloc: Global, word: &[u8], name: &[u8], rest: &[u8]) -> Result<Cha
     }
 }
 
-fn read_triple(alloc: Global, word: &[u8], name: &[u8], value: &[u8]) -> Result<Change, ReadError>
+fn read_triple(alloc: Global, word: &[u8], name: &[u8], value: &[u8]) -> Result<Edit, ReadError>
     ensures ok { IfOk result (λ change. triple_change word.now name.now value.now ≡ Some change) }
     ensures refused { IfErr result (IsNoChange (triple_change word.now name.now value.now)) }
 {
     if word == b"set".as_slice() {
         let name = Bytes::copied(alloc, name)?;
         let value = Bytes::copied(alloc, value)?;
-        Ok(Change::Set { name, value })
+        Ok(Edit::Set { name, value })
     } else if word == b"add".as_slice() {
         let name = Bytes::copied(alloc, name)?;
         let value = Bytes::copied(alloc, value)?;
-        Ok(Change::Add { name, value })
+        Ok(Edit::Add { name, value })
     } else {
         Err(ReadError::UnknownCommand)
     }
