@@ -1,5 +1,5 @@
 #!/usr/bin/env python3
-"""A view of a run's live flows in a terminal: those that wait are let go on or killed by a key.
+"""A view of a run's live flows in a terminal: those that wait are let go on, killed, or opened in $EDITOR by a key.
 
 It says lines at the run's control door as any client of it (docs/operator.md). It is a convenience on Python's standard library alone, and
 no part of what is proved.
@@ -9,22 +9,25 @@ no part of what is proved.
 
 import curses
 import json
-import socket
 import sys
 import time
+from collections.abc import Callable
 from dataclasses import dataclass, field
 
-PLACE = "127.0.0.1:8081"
+sys.dont_write_bytecode = True
+from operator_edit import PLACE, Door, Message, Refused, by_editor, edit, message_of, told
+
 KEYS = {
     "a": "lets the flow under the cursor go on",
     "A": "lets all go on that are live now, until none of them waits",
+    "e": "opens the one under the cursor in $EDITOR, where it waits, and says what was changed there",
     "X": "kills the flow under the cursor",
     "m": "marks it",
     "j, k": "and the arrows move the cursor",
     "?": "shows these keys, or the flows again",
     "q": "leaves; the run goes on",
 }
-SHORT = "a resume   A resume all   X kill   m mark   ? keys   q leave"
+SHORT = "a resume   A resume all   e edit   X kill   m mark   ? keys   q leave"
 WORDS = {"a": "resume", "X": "kill", "m": "mark"}
 # How often it looks, how long a flow that is finished stays in view, and how long none of those that are let go on has to wait, in seconds.
 LOOK, STAY, CALM = 0.5, 3.0, 1.0
@@ -35,43 +38,16 @@ def printable(text: str) -> str:
     return "".join(one if one.isprintable() else "?" for one in text)
 
 
-class Door:
-    """A connection at the control door."""
-
-    def __init__(self, place: str) -> None:
-        host, port = place.rsplit(":", 1)
-        self.stream = socket.create_connection((host.strip("[]"), int(port))).makefile("rwb")
-
-    def ask(self, words: str) -> str:
-        """Says a line: the first line that it is answered."""
-        self.stream.write(words.encode() + b"\n")
-        self.stream.flush()
-        return self.read()
-
-    def read(self) -> str:
-        answer = self.stream.readline()
-        if not answer.endswith(b"\n"):
-            raise EOFError
-        return answer[:-1].decode()
-
-    def flows(self) -> dict[str, str]:
-        """The live flows in their order: whether each is waiting or going."""
-        found, answer = {}, self.ask("list")
-        while answer != "end":
-            name, state = answer.split(" ")
-            found[name], answer = state, self.read()
-        return found
-
-
 @dataclass
 class Flow:
-    """A flow as it is in view: its state, and its method and URL as they were when it was drawn first."""
+    """A flow as it is in view: its state, its method and URL as they were when it was drawn first, and what was made of it here where it waited so."""
 
     state: str
     began: float
     ended: float | None = None
     marked: bool = False
     about: str | None = None
+    edited: tuple[str, bytes, Message] | None = None
 
     def line(self, name: str, cursor: str, width: int, now: float) -> str:
         minutes, seconds = divmod(int((self.ended or now) - self.began), 60)
@@ -84,9 +60,10 @@ class View:
 
     place: str
     door: Door
+    editor: Callable[[bytes], bytes] = by_editor
     flows: dict[str, Flow] = field(default_factory=dict)
     chosen: str = ""
-    said: str = ""
+    said: list[str] = field(default_factory=list)
     released: set[str] = field(default_factory=set)
     calm_since: float = 0.0
     shows_keys: bool = False
@@ -139,11 +116,27 @@ class View:
             self.chosen = names[max(0, min(names.index(self.chosen) + move, len(names) - 1))]
         elif key == "A":
             self.released, self.calm_since = {name for name, flow in self.flows.items() if flow.ended is None}, now
-            self.said = f"resume all of {len(self.released)}"
+            self.said = [f"resume all of {len(self.released)}"]
+        elif key == "e" and self.chosen:
+            self.edit(self.chosen)
         elif key in WORDS and self.chosen:
             answer = self.door.ask(f"{WORDS[key]} {self.chosen}")
             self.flows[self.chosen].marked |= key == "m" and answer == "ok"
-            self.said = f"{WORDS[key]} {self.chosen}: {answer}"
+            self.said = [f"{WORDS[key]} {self.chosen}: {answer}"]
+
+    def edit(self, name: str) -> None:
+        """Opens a flow that waits in the editor, as the last edit here left it where it waits as it did then."""
+        flow = self.flows[name]
+        if flow.state != "waiting":
+            self.said = [f"edit {name}: not waiting"]
+            return
+        try:
+            shown, entry = self.door.ask(f"show {name}"), self.door.entry(name)
+            before = flow.edited[2] if flow.edited and flow.edited[:2] == (shown, entry) else message_of(entry)
+            after, said = edit(self.door, name, before, self.editor)
+            flow.edited, self.said = (shown, entry, after), told(name, said)
+        except Refused as why:
+            self.said = [printable(f"edit {name}: {why}")]
 
     def lines(self, height: int, width: int, now: float) -> list[str]:
         """What is drawn: the flows around the chosen one, what is shown of that, the keys, and what the last key was answered."""
@@ -154,15 +147,16 @@ class View:
         shown = ""
         if self.chosen and self.flows[self.chosen].ended is None:
             shown = printable(self.door.ask(f"show {self.chosen}"))
-        about = [shown[at : at + width - 1] for at in range(0, len(shown), width - 1)][: max(height - 6, 0)]
-        names, room = list(self.flows), max(height - 5 - len(about), 1)
+        foot = [SHORT, *(self.said or [""])[-max(height - 6, 1) :]]
+        about = [shown[at : at + width - 1] for at in range(0, len(shown), width - 1)][: max(height - 5 - len(foot), 0)]
+        names, room = list(self.flows), max(height - 3 - len(foot) - len(about), 1)
         first = max(0, names.index(self.chosen) - room + 1) if self.chosen else 0
         drawn = names[first : first + room]
         for name in drawn:
             self.about(name)
         wide = max(map(len, drawn), default=0)
         rows = [self.flows[name].line(name, ">" if name == self.chosen else " ", wide, now) for name in drawn]
-        return [f"{self.place}: {len(live)} live, {waiting} waiting", "", *rows, "", *about, SHORT, self.said]
+        return [f"{self.place}: {len(live)} live, {waiting} waiting", "", *rows, "", *about, *foot]
 
 
 def draw(screen: curses.window, lines: list[str]) -> None:
@@ -175,7 +169,18 @@ def draw(screen: curses.window, lines: list[str]) -> None:
 
 def run(screen: curses.window, place: str, door: Door) -> None:
     """Looks and draws twice a second, and behind each key."""
-    view, arrows = View(place, door), {curses.KEY_DOWN: "j", curses.KEY_UP: "k"}
+
+    def editor(text: bytes) -> bytes:
+        """Has the editor use the terminal meanwhile."""
+        curses.def_prog_mode()
+        curses.endwin()
+        try:
+            return by_editor(text)
+        finally:
+            curses.reset_prog_mode()
+            screen.redrawwin()
+
+    view, arrows = View(place, door, editor), {curses.KEY_DOWN: "j", curses.KEY_UP: "k"}
     screen.timeout(int(LOOK * 1000))
     while True:
         now = time.monotonic()
