@@ -16,6 +16,7 @@ ANSWER = b"HTTP/1.1 200 OK\r\nContent-Length: 2\r\n\r\nok"
 OWN = b"HTTP/1.1 400 Bad Request\r\nServer: mitm\r\nConnection: close\r\nContent-Type: text/plain\r\nContent-Length: 11\r\n\r\nbad target\n"
 LINES = [b"0.0 GET http://h/ 200 2", b"1.0 GET http://h:81/ - - error: bad chunk", b"0.1 GET http://h/ 200 2"]
 SAID = b"list\nresume 1.0\nx\nshow 0.0\n"
+EDIT_ANSWERS = (b"ok", b"no such flow", b"not waiting", b"not there", b"bad value", b"bad number", b"unknown command")
 SHOWN = b'{"code":null,"error":null,"id":"0.0","marked":false,"messages":0,"method":"GET","url":"http://h/"}\n'
 
 
@@ -50,6 +51,13 @@ def case_fuzzer_tells_what_is_wrong():
     for wrong, got in ((False, b"0.0 going\nend\nok\nunknown command\n" + SHOWN), (True, b"1.0 going\n0.0 going\nend\nok\nunknown command\n" + SHOWN), (True, b"end\nok\n" + SHOWN),
                        (True, b"end\nok\nunknown command\n"), (True, b"end\nok\nunknown command\n" + SHOWN + b"ok\n"), (True, b"end\nok\nunknown command\n" + SHOWN.replace(b"0.0", b"0.1"))):
         same((got, wrong_answers(SAID, got, True) is not None), (got, wrong))
+    for answers, words in (("ok bad", b"url http://h:99999/"), ("ok", b"url http://h/a"), ("bad", b"url /a"), ("ok", b"method PUT"), ("bad", b"method CONNECT"), ("bad", b"method "), ("ok", b"status 200"),
+                           ("bad", b"status 100"), ("ok", b"set X "), ("ok", b"add X /w=="), ("bad", b"set X /x=="), ("bad", b"set X eA"), ("bad", b"set X Cg=="), ("bad", b"set ( eA=="), ("ok", b"remove X"),
+                           ("bad", b"remove "), ("ok", b"body"), ("ok", b"more eA=="), ("ok bad", b"more Cg=="), ("bad", b"more !"), ("", b"body "), ("", b"set X"), ("", b"reason x"), ("", b"")):
+        may_be = {b"no such flow", b"not waiting", b"not there", *([b"ok"] if "ok" in answers else []), *([b"bad value"] if "bad" in answers else [])} if answers else {b"unknown command"}
+        told = {answer for answer in EDIT_ANSWERS if wrong_answers(b"edit 1.0 " + words + b"\n", answer + b"\n", True) is None}
+        same((words, told), (words, may_be))
+    same([wrong_answers(b"edit 1 body\n", answer, True) is None for answer in (b"bad number\n", b"ok\n")], [True, False])
     for wrong, text in ((False, frame(1, b"a", b"abcd")), (True, frame(1, b"a")), (True, b"\x81\xfe\0\1abcdx"), (True, b"\xc1\x81abcdx")):
         same((text, is_wrong_frame(text)), (text, wrong))
 

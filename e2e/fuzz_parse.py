@@ -1,4 +1,5 @@
 """What the fuzzer checks: strict readers of requests, responses, frames, printed lines and an operator's answers. Each tells what is wrong, or None."""
+import base64
 import json
 import re
 
@@ -322,6 +323,8 @@ def wanted_answer(line):
         return (b"bye",)
     if words[0] == b"entry" and len(words) == 3:
         return "entry" if is_id(words[1]) and is_place(words[2]) else (b"bad number",)
+    if words[0] == b"edit":
+        return wanted_of_edit(words[1:])
     if len(words) != 2 or words[0] not in (b"show", b"resume", b"kill", b"mark", b"drop"):
         return (b"unknown command",)
     if words[0] == b"drop":
@@ -331,6 +334,51 @@ def wanted_answer(line):
     if words[0] == b"show":
         return "show"
     return (b"ok", b"no such flow") + ((b"not waiting",) if words[0] != b"mark" else ())
+
+
+# How many words stand behind each word that says what is changed.
+CHANGES = {b"method": 1, b"url": 1, b"status": 1, b"set": 2, b"add": 2, b"remove": 1, b"body": 0, b"more": 1}
+
+
+def wanted_of_edit(words):
+    """The answers to an edit with these words."""
+    if len(words) < 2 or CHANGES.get(words[1]) != len(words) - 2:
+        return (b"unknown command",)
+    if not is_id(words[0]):
+        return (b"bad number",)
+    may_be = (b"no such flow", b"not waiting", b"not there")
+    good = is_good(*words[1:])
+    return may_be + ((b"ok",) if good is not False else ()) + ((b"bad value",) if good is not True else ())
+
+
+def is_good(word, *values):
+    """Whether the values are of the kind that is wanted; None where more hangs on it than is judged here."""
+    if word == b"method":
+        return is_token(values[0]) and values[0] != b"CONNECT"
+    if word == b"status":
+        return bool(re.fullmatch(rb"101|[2-9][0-9]{2}", values[0]))
+    if word == b"url":
+        return True if re.fullmatch(rb"http://(?:[a-z]+|[0-9]+(?:\.[0-9]+){3})(?::[1-9][0-9]{0,3})?(?:/[a-z0-9/?=]*)?", values[0]) else None if re.match(rb"(?i)http://", values[0]) else False
+    if word == b"more":
+        value = decoded(values[0])
+        return False if value is None else None if re.search(rb"[\r\n\0]", value) else True
+    if word in (b"set", b"add"):
+        value = decoded(values[1])
+        return is_token(values[0]) and value is not None and not re.search(rb"[\r\n\0]", value)
+    return word == b"body" or is_token(values[0])
+
+
+def is_token(word):
+    return bool(re.fullmatch(TOKEN, word))
+
+
+def decoded(text):
+    """The bytes for which a text of base64 stands that is written as it should be, or None."""
+    try:
+        value = base64.b64decode(text, validate=True)
+    except ValueError:
+        return None
+    return value if base64.b64encode(value) == text else None
 
 
 def wrong_shown(answer, line):

@@ -8,7 +8,7 @@ import time
 import zlib
 
 from fuzz_parse import Cut, Wrong, read_request, unmasked, wrong_answers
-from fuzz_talks import ESTABLISHED, operator_text, random_of, server_steps, websocket_steps
+from fuzz_talks import ESTABLISHED, edit_of, operator_text, random_of, server_steps, websocket_steps
 from fuzz_texts import AGREES, ASKS, PATH, SERVER, SPEAKER, SWITCHES, exchange, frame, is_streamed, lines, pieces, target_of, websocket
 
 PROXY, CONTROL = ("127.0.0.1", 8280), ("127.0.0.1", 8281)
@@ -414,7 +414,7 @@ class Honest(threading.Thread):
 
 
 class Steady(threading.Thread):
-    """The operator who looks at what waits, marks, lets go on, or kills; and drains at the end."""
+    """The operator who looks at what waits, marks, changes, lets go on, or kills; and drains at the end."""
 
     def __init__(self, seed):
         super().__init__(daemon=True, name="operator")
@@ -442,8 +442,8 @@ class Steady(threading.Thread):
         for flow in live:
             name, word = flow.split(b" ")
             if word == b"waiting" and not (patient and self.rng.random() < 0.5):
-                for verb in self.rng.choice(((b"resume",), (b"show", b"resume"), (b"mark", b"show", b"resume"), (b"kill",))):
-                    self.say(verb + b" " + name)
+                for verb in self.rng.choice(((b"resume",), (b"show", b"resume"), (b"mark", b"show", b"resume"), (b"kill",), (b"edit", b"resume"), (b"edit",) * 5 + (b"show", b"resume"), (b"edit", b"kill"))):
+                    self.say(edit_of(self.rng, name) if verb == b"edit" else verb + b" " + name)
         return len(live)
 
     def run(self):

@@ -1,4 +1,5 @@
 """What a fuzzed client does, as a list of steps that follows from a seed: exact conversations, of which all is known, and mutated ones."""
+import base64
 import random
 from dataclasses import dataclass, field
 
@@ -287,6 +288,19 @@ def websocket_steps(seed, number, made):
 
 # What operators say.
 
+def edit_of(rng, one):
+    """A line that changes a flow, or tries to. No method is HEAD, whose responses have another form than the client awaits; and URLs stay with the servers here."""
+    value = base64.b64encode(rng.choice((b"", b"a", b"\xff\xfe", b"chunked", b"7", b"a word, another", rng.randbytes(30), rng.randbytes(700))))
+    name = rng.choice((b"X-E", b"x-e", b"Content-Length", b"Transfer-Encoding", b"Connection", b"Content-Type", b"a b", b"(", b""))
+    return b"edit " + one + b" " + rng.choice((
+        b"method PUT", b"method POST", b"method BREW", b"method CONNECT", b"method ", b"method G(T", b"url http://127.0.0.1:%d/f/m0/0" % SERVER, b"url http://localhost:%d" % SERVER,
+        b"url http://127.0.0.1:1/f/m0/0", b"url http://127.0.0.1:0/", b"url /f/m0/0", b"url HTTP://[::1]:%d/f/m0/0?\xe4" % SERVER, b"url https://127.0.0.1/", b"url http://", b"status 200",
+        b"status 204", b"status 304", b"status 404", b"status 999", b"status 101", b"status 100", b"status 0200", b"status x", b"status 200 OK", b"body", b"body", b"body ", b"more " + value,
+        b"more " + value, b"more " + value, b"more !", b"more", b"set " + name + b" " + value, b"set " + name + b" " + value, b"add " + name + b" " + value, b"add " + name + b" x",
+        b"remove " + name, b"remove " + name, b"reason x", b"", b" body",
+    ))
+
+
 def operator_text(rng, ids):
     """Lines of an operator, none of which is `quit`; and whether its first bytes are cut so that no line is whole."""
     said = []
@@ -294,6 +308,7 @@ def operator_text(rng, ids):
         one = b"%d.%d" % (rng.choice(ids), rng.choice((0, 0, 1, 2)))
         said.append(rng.choice((
             b"list", b"list", b"show " + one, b"resume " + one, b"kill " + one, b"mark " + one, b"drop counter", b"drop ", b"drop x", b"", b" ", b"list ", b" list", b"LIST", b"show", b"show 1",
+            *(edit_of(rng, one) for _ in range(6)), b"edit", b"edit " + one, b"edit 1 body", b"edit 00.0 more x", b"edit  body",
             b"entry " + one + b" 0", b"entry " + one + b" 300", b"entry " + one + b" 99999999", b"entry " + one, b"entry " + one + b" x", b"entry 1 0",
             b"resume 00.0", b"kill +1.2", b"mark 4294967296.0", b"show 4294967295.4294967295", b"show " + one + b"\r", b"list\r", b"list\r\r", b"quit now", b"quit ", b"qui", b"\xff\xfe", b"\0list",
             b"show 2147483648.0", b"resume  " + one, b"x" * 1022, b"x" * 1023, b"x" * 1024, b"x" * 5000, b"GET / HTTP/1.1", rng.randbytes(9),

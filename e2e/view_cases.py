@@ -1,5 +1,6 @@
 """The view of live flows, in a terminal of tmux: what it shows, and what its keys do."""
 import os
+import shlex
 import shutil
 import subprocess
 import sys
@@ -12,13 +13,16 @@ WIDTH, HEIGHT = 100, 20
 
 
 class Terminal:
-    """A terminal in which the view runs."""
+    """A terminal in which the view runs, with this editor."""
+
+    def __init__(self, editor="vi"):
+        self.editor = editor
 
     def __enter__(self):
         if shutil.which("tmux") is None:
             raise Skipped("tmux is missing")
         self.name = f"mitm-e2e-{os.getpid()}"
-        view = f"exec {sys.executable} {os.path.join(TOP, 'examples', 'operator_view.py')}"
+        view = f"exec env {shlex.quote('EDITOR=' + self.editor)} {sys.executable} {os.path.join(TOP, 'examples', 'operator_view.py')}"
         try:
             self.ask("-f", "/dev/null", "new-session", "-d", "-x", str(WIDTH), "-y", str(HEIGHT), view)
         except subprocess.CalledProcessError as why:
