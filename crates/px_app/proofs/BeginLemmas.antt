@@ -33,11 +33,11 @@ use Rattle.px_app.specs.Operating.{OperatorsStand}
 use Rattle.px_app.specs.Over.{ReachesPart, course_from, finished_in, rests_of}
 use Rattle.px_app.specs.Replayed.{MayBegin, begun_count}
 use Rattle.px_app.specs.Replaying.{ReplaysStand, behind_flows}
-use Rattle.px_app.specs.Run.{BreaksOff, Told, ToldNext, ToldOn}
+use Rattle.px_app.specs.Run.{BreaksOff, ToldNext, ToldOn}
 use Rattle.px_app.specs.Saved.{Puts, SavesTo}
 use Rattle.px_app.specs.Serving.{Between, BrokeOff, IsSound, Rests, RestsNow}
 use Rattle.px_app.specs.Worked.{Worked, all_worked, breaks_begun, one_begun}
-use Rattle.px_app.proofs.BesideLemmas.{finished_begun, heard_begun, now_beside, operators_begun, peer_beside, rests_begun}
+use Rattle.px_app.proofs.BesideLemmas.{finished_begun, heard_begun, heard_front, now_beside, operators_begun, peer_beside, rests_begun}
 use Rattle.px_app.proofs.ReplayLemmas.{are_of, before_begun, before_front, begun_within, not_begun_yet, now_begun, now_end, replays_front, replays_in_begun, stands_begun, stands_listed}
 use Rattle.px_app.proofs.RestLemmas.{before_by, breaks_next, part_more, part_of, reaches_next}
 use Rattle.px_app.proofs.StepLemmas.{came_over, files_all, flows_behind, rests_longer, told_of}
@@ -158,10 +158,11 @@ module _ {C S : Type 0} (standing : Standing C) (awaited : C → Option Ask) (nu
       }
 
       pub begin_breaks : (replaying : Replaying) (total : ℕ) → ReplaysStand replaying total told → MayBegin total told conv → (e : OutOfMemory) (now : Option (List ℕ)) →
-          Puts to was flows (Err e) mid_files new_files before now → Told (BrokeOff answers drops names fails due first to new_files total start now) after
+          Puts to was flows (Err e) mid_files new_files before now → ToldOn (BrokeOff answers drops names fails due first to new_files total start now) told after
       begin_breaks replaying total stands may e now puts = record {
-        trace = told_after;
+        after = told_after;
         tells = told_is;
+        count = heard_begun told conv a.more a.own;
         holds = record { breaks = breaks_after e now puts; replays = replays_in_begun total replaying told conv a.more a.own may stands };
       }
 
@@ -178,12 +179,13 @@ module _ {C S : Type 0} (standing : Standing C) (awaited : C → Option Ask) (nu
         (subst Q (append_assoc r.trace (steps.Begun conv ∷ []) more) (rests_begun r.trace conv more own)))
 
     pub begin_within : {new_files : FilesMeaning} (replaying : Replaying) (total : ℕ) → ReplaysStand replaying total told → MayBegin total told conv → (now : Option (List ℕ)) (after : Option Trace) → now ≡ before →
-        BreaksBegun answers fails due course conv r.trace told after new_files → Told (BrokeOff answers drops names fails due first to new_files total start now) after
+        BreaksBegun answers fails due course conv r.trace told after new_files → ToldOn (BrokeOff answers drops names fails due first to new_files total start now) told after
     begin_within {new_files} replaying total stands may now after same b =
         let Part : Option (List ℕ) → Type 0 = λ o. ReachesPart to r.changes r.made (r.trace ++ b.more) start o in
         record {
-          trace = told ++ b.more;
+          after = told ++ b.more;
           tells = b.is;
+          count = heard_front told conv b.more b.own;
           holds = record {
             breaks = record {
               trace = r.trace ++ b.more;
@@ -287,6 +289,11 @@ pub on_next : (P Q : Trace → Type 0) (R : Type 0) (trace : Trace) (told last :
 on_next P Q R trace told last on step =
     let next = step on.after on.holds on.tells in
     (record { after = next.0.after; tells = next.0.tells; count = next.0.count ∙ on.count; holds = next.0.holds }, next.1)
+
+pub on_behind : (P Q : Trace → Type 0) (trace : Trace) (told last : Option Trace) → (on : ToldOn P trace told) → ((between : Trace) → P between → told ≡ Some between → ToldOn Q between last) → ToldOn Q trace last
+on_behind P Q trace told last on step =
+    let next = step on.after on.holds on.tells in
+    record { after = next.after; tells = next.tells; count = next.count ∙ on.count; holds = next.holds }
 
 pub on_by : (P Q : Trace → Type 0) (trace : Trace) (told : Option Trace) → ((after : Trace) → P after → Q after) → ToldOn P trace told → ToldOn Q trace told
 on_by P Q trace told f on = record { after = on.after; tells = on.tells; count = on.count; holds = f on.after on.holds }

@@ -1,5 +1,5 @@
 -- What is told beside the steps of conversations: the same calls, at the same moment. And a run one beginning further.
-use Rattle.std.proofs.Common.{◌≡◌, ℕ, ◌+◌, ◌==◌, Bool, true, false, cond, List, [], ◌∷◌, ◌++◌, Option, Some, None, refl, sym, ap, ◌∙◌}
+use Rattle.std.proofs.Common.{◌≡◌, ℕ, ◌+◌, ◌==◌, Bool, true, false, cond, List, [], ◌∷◌, ◌++◌, Option, Some, None, refl, sym, ap, append-nil, append_assoc, ◌∙◌}
 use Rattle.px_event.specs.declared.heard.Heard.{Heard}
 use Rattle.px_event.specs.declared.said.Said.{Said}
 use Rattle.px_event.specs.declared.said.Said.TheVariants as said
@@ -12,6 +12,7 @@ use Rattle.px_core.specs.Calls.{Calls, calls, calls_from, calls_on, dials, no_ca
 use Rattle.px_core.specs.Course.{Course}
 use Rattle.px_core.specs.Due.{Due}
 use Rattle.px_core.specs.Held.{AllOf}
+use Rattle.px_core.specs.Run.{IsFrontOfBegun}
 use Rattle.px_core.specs.Router.{IsNow}
 use Rattle.px_app.specs.Operating.{OperatorsStand}
 use Rattle.px_app.specs.Operators.{word_of}
@@ -90,6 +91,12 @@ rests_begun trace conv more all = rests_first trace (steps.Begun conv) more (λ 
 
 pub heard_begun : (trace : Trace) (conv : ℕ) (more : Trace) → AllOf conv more → heard_count ((trace ++ steps.Begun conv ∷ []) ++ more) ≡ heard_count trace
 heard_begun trace conv more all = count_begun trace conv more (none_of conv more all)
+
+-- so behind a front of them, memory ran out
+pub heard_front : (trace : Trace) (conv : ℕ) (more : Trace) → IsFrontOfBegun conv more → heard_count (trace ++ more) ≡ heard_count trace
+heard_front trace conv [] own = ap heard_count (append-nil trace)
+heard_front trace conv (step ∷ more) (is, own) =
+    ap (λ (s : Step). heard_count (trace ++ s ∷ more)) is ∙ (ap heard_count (sym (append_assoc trace (steps.Begun conv ∷ []) more)) ∙ heard_begun trace conv more own)
 
 pub finished_begun : (trace : Trace) (conv : ℕ) (more : Trace) → finished_in ((trace ++ steps.Begun conv ∷ []) ++ more) ≡ finished_in trace ++ finished_in more
 finished_begun trace conv more = done_begun trace conv more

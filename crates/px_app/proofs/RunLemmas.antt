@@ -1,5 +1,5 @@
 -- How a run ends, by its status.
-use Rattle.std.proofs.Common.{◌≡◌, ◌≢◌, ◌⊎◌, inl, inr, ℕ, ◌<◌, Bool, true, false, List, [], Option, Some, Result, Ok, Err, IfErr, refl, sym, ap, ◌∙◌, subst, arith}
+use Rattle.std.proofs.Common.{◌≡◌, ◌≢◌, ◌⊎◌, inl, inr, ℕ, ◌<◌, ◌≤◌, Bool, true, false, List, [], Option, Some, Result, Ok, Err, IfErr, refl, sym, ap, ◌∙◌, subst, arith}
 use Rattle.std.specs.Result.{IsErrAnd}
 use Rattle.px_message.specs.declared.address.Address.{Address}
 use Rattle.px_message.proofs.AddressLemmas.{address_eq}
@@ -68,8 +68,8 @@ leaves_part answers fails due course files trace W V leaves weaker = record {
 module _ {S : Type 0} (answers : Answering S) (drops : List ℕ → S → S → Type 0) (names : S → List (List ℕ)) (fails : Failing S) (due : Due) (first : AnswererState S) (to : Option SavesTo) (budget : ℕ)
     (printing : Printing) (files : FilesMeaning) (start now : Option (List ℕ)) (told : Trace) where
   -- out of memory, at any moment
-  pub memory_run : BreaksOff answers drops names fails due first to files start now told → IsRun answers drops names fails due first to budget NoMemory printing files start now told
-  memory_run broken = record {
+  pub memory_run : heard_count told ≤ budget → BreaksOff answers drops names fails due first to files start now told → IsRun answers drops names fails due first to budget NoMemory printing files start now told
+  memory_run within broken = record {
     trace = broken.trace;
     changes = broken.changes;
     operations = broken.operations;
@@ -86,6 +86,7 @@ module _ {S : Type 0} (answers : Answering S) (drops : List ℕ → S → S → 
     is_end = record {
       ended = λ (e : NoMemory ≡ Ended). absurd (cc);
       ends = λ is. inr refl;
+      within = within;
       count = λ (e : NoMemory ≡ BudgetSpent). absurd (cc);
       goes_on = λ (e : NoMemory ≡ BudgetSpent). absurd (cc);
       spent = λ _ _ _. inr refl;
@@ -98,7 +99,7 @@ module _ {S : Type 0} (answers : Answering S) (drops : List ℕ → S → S → 
       (served : IsServed answers due trace) (follows : IsAnswered answers due (course_from first changes operations) trace)
       (leaves : (W : Type 0) → LeavesFiles answers fails due (course_from first changes operations) W files trace) (all : IsAllTold due trace)
       (waits : BeforeEachHeard (RestsBy answers due (course_from first changes operations)) trace) (waiting : RestsBy answers due (course_from first changes operations) trace)
-      (reaches : Reaches to printing changes made trace start now) where
+      (reaches : Reaches to printing changes made trace start now) (within : heard_count told ≤ budget) where
     -- with this status, which has its cause
     run_by : (status : Status) → IsEnd budget status over told → IsRun answers drops names fails due first to budget status printing files start now told
     run_by status is_end = record {
@@ -125,6 +126,7 @@ module _ {S : Type 0} (answers : Answering S) (drops : List ℕ → S → S → 
     ended_run last = run_by Ended (record {
       ended = λ _. last;
       ends = λ is. inl refl;
+      within = within;
       count = λ (e : Ended ≡ BudgetSpent). absurd (cc);
       goes_on = λ (e : Ended ≡ BudgetSpent). absurd (cc);
       spent = λ _ _ other. absurd (not_both over last other);
@@ -135,6 +137,7 @@ module _ {S : Type 0} (answers : Answering S) (drops : List ℕ → S → S → 
     fault_run goes_on below = run_by NetFault (record {
       ended = λ (e : NetFault ≡ Ended). absurd (cc);
       ends = λ is. absurd (not_both over is goes_on);
+      within = within;
       count = λ (e : NetFault ≡ BudgetSpent). absurd (cc);
       goes_on = λ (e : NetFault ≡ BudgetSpent). absurd (cc);
       spent = λ some (e : heard_count told ≡ budget) _. let less : heard_count told < budget = below some in absurd (omega arith);
@@ -145,6 +148,7 @@ module _ {S : Type 0} (answers : Answering S) (drops : List ℕ → S → S → 
     spent_run goes_on count = run_by BudgetSpent (record {
       ended = λ (e : BudgetSpent ≡ Ended). absurd (cc);
       ends = λ is. absurd (not_both over is goes_on);
+      within = within;
       count = λ _. count;
       goes_on = λ _. goes_on;
       spent = λ _ _ _. inl refl;
@@ -157,6 +161,7 @@ module _ {S : Type 0} (answers : Answering S) (drops : List ℕ → S → S → 
     error_run net.NoMemory goes_on below = run_by NoMemory (record {
       ended = λ (e : NoMemory ≡ Ended). absurd (cc);
       ends = λ is. inr refl;
+      within = within;
       count = λ (e : NoMemory ≡ BudgetSpent). absurd (cc);
       goes_on = λ (e : NoMemory ≡ BudgetSpent). absurd (cc);
       spent = λ _ _ _. inr refl;

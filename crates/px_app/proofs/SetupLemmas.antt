@@ -31,6 +31,7 @@ pub ends_so : (printing : Printing) (status : Status) (code : ℕ) → (code ≡
 ends_so printing status code is not most over told end = record {
   ended = λ either. end.ended (ended_either printing status code is not either);
   ends = λ last. elim (end.ends last) [ inl ended ↦ ended_gives printing status code is ended | inr memory ↦ inr (inr (memory_gives printing status code is memory)) ];
+  within = end.within;
   budget = λ six. let spent = six_says printing status code is six in (end.count spent, end.goes_on spent);
   spent = λ some count goes_on. elim (end.spent some count goes_on) [ inl spent ↦ spent_gives printing status code is spent | inr memory ↦ inr (memory_gives printing status code is memory) ];
 }

@@ -1,5 +1,5 @@
 -- One thing heard by a run of many conversations, by how it ended.
-use Rattle.std.proofs.Common.{◌≡◌, ◌≢◌, ◌⊎◌, inl, inr, ℕ, ◌+◌, ◌<◌, Bool, true, false, List, [], ◌∷◌, ◌++◌, Option, Some, None, Result, Ok, Err, refl, sym, ap, ◌∙◌, subst, append_assoc}
+use Rattle.std.proofs.Common.{◌≡◌, ◌≢◌, ◌⊎◌, inl, inr, ℕ, ◌+◌, ◌<◌, ◌≤◌, arith, Bool, true, false, List, [], ◌∷◌, ◌++◌, Option, Some, None, Result, Ok, Err, refl, sym, ap, ◌∙◌, subst, append_assoc}
 use Rattle.std.specs.List.{flat_map}
 use Rattle.std.proofs.lemmas.Grind.{flat_map-append}
 use Rattle.std.proofs.lemmas.List.{append_cancel_left}
@@ -110,17 +110,32 @@ module _ {C S : Type 0} (standing : Standing C) (awaited : C → Option Ask) (nu
       LeavesFiles answers fails due course W now.files trace
   files_all {course} {now} {table} {trace} stands W = leaves_all answers fails due course now stands.pending now.files trace stands.answered refl W
 
-  -- memory ran out within the step
-  pub tells_memory : {new_files : FilesMeaning} (first : AnswererState S) (to : Option SavesTo) (printing : Printing) (budget total : ℕ) (start now : Option (List ℕ)) (told : Option Trace) →
-      Told (BrokeOff answers drops names fails due first to new_files total start now) told → Told (Ran answers drops names fails due first to budget NoMemory printing new_files total start now) told
-  tells_memory {new_files} first to printing budget total start now told broken = record {
-    trace = broken.trace;
-    tells = broken.tells;
-    holds = record {
-      run = memory_run answers drops names fails due first to budget printing new_files start now broken.trace broken.holds.breaks;
-      replays = broken.holds.replays;
-    };
-  }
+  -- memory ran out behind what was told, or within one thing more that was heard
+  pub tells_memory : {new_files : FilesMeaning} (first : AnswererState S) (to : Option SavesTo) (printing : Printing) (budget total : ℕ) (start now : Option (List ℕ)) (trace : Trace) (told : Option Trace) →
+      heard_count trace ≤ budget → ToldOn (BrokeOff answers drops names fails due first to new_files total start now) trace told →
+      Told (Ran answers drops names fails due first to budget NoMemory printing new_files total start now) told
+  tells_memory {new_files} first to printing budget total start now trace told few broken =
+      let count = broken.count in record {
+        trace = broken.after;
+        tells = broken.tells;
+        holds = record {
+          run = memory_run answers drops names fails due first to budget printing new_files start now broken.after (omega (arith, count, few)) broken.holds.breaks;
+          replays = broken.holds.replays;
+        };
+      }
+
+  pub tells_memory_next : {new_files : FilesMeaning} (first : AnswererState S) (to : Option SavesTo) (printing : Printing) (budget total : ℕ) (start now : Option (List ℕ)) (trace : Trace) (told : Option Trace) →
+      heard_count trace < budget → ToldNext (BrokeOff answers drops names fails due first to new_files total start now) trace told →
+      Told (Ran answers drops names fails due first to budget NoMemory printing new_files total start now) told
+  tells_memory_next {new_files} first to printing budget total start now trace told below broken =
+      let count = broken.count in record {
+        trace = broken.after;
+        tells = broken.tells;
+        holds = record {
+          run = memory_run answers drops names fails due first to budget printing new_files start now broken.after (omega (arith, count, below)) broken.holds.breaks;
+          replays = broken.holds.replays;
+        };
+      }
 
   module _ {A : Type 0} {state : A → S} (first : AnswererState S) (to : Option SavesTo) where
     module _ {files : FilesMeaning} (router : Router C A) (operators : Operators) (was : Printing) (start before : Option (List ℕ)) (told : Trace) (moment : ℕ) (what : Heard)
@@ -257,17 +272,18 @@ module _ {C S : Type 0} (standing : Standing C) (awaited : C → Option Ask) (nu
         }
 
         pub breaks_on : (replaying : Replaying) (total : ℕ) → ReplaysStand replaying total told → NoneWaits total told → (e : OutOfMemory) (now : Option (List ℕ)) →
-            Puts to was flows (Err e) mid_files new_files before now → Told (BrokeOff answers drops names fails due first to new_files total start now) after
+            Puts to was flows (Err e) mid_files new_files before now → ToldNext (BrokeOff answers drops names fails due first to new_files total start now) told after
         breaks_on replaying total stands goes e now puts = record {
-          trace = told_after;
+          after = told_after;
           tells = told_is;
+          count = count_next told moment what t.more adds.quiet_told;
           holds = record { breaks = breaks_after e now puts; replays = replays_in total replaying told moment what t.more quiet_told goes stands };
         }
 
       -- memory ran out within it, and nothing of it was printed
       pub breaks_within : {new_files : FilesMeaning} (replaying : Replaying) (total : ℕ) → ReplaysStand replaying total told → NoneWaits total told → (now : Option (List ℕ)) (after : Option Trace) → now ≡ before →
           TurnBroke answers drops names fails due r.trace (course_from first r.changes r.operations) moment what (told ++ steps.Heard moment what ∷ []) after new_files →
-          Told (BrokeOff answers drops names fails due first to new_files total start now) after
+          ToldNext (BrokeOff answers drops names fails due first to new_files total start now) told after
       breaks_within {new_files} replaying total stands goes now after same b =
           let course = course_from first r.changes r.operations in
           let told_after = (told ++ steps.Heard moment what ∷ []) ++ b.more in
@@ -282,8 +298,9 @@ module _ {C S : Type 0} (standing : Standing C) (awaited : C → Option Ask) (nu
           let Waits : Course S → Type 0 = λ c. BeforeEachHeard (RestsBy answers due c) b.next in
           let Part : Option (List ℕ) → Type 0 = λ o. ReachesPart to (r.changes ++ later) r.made b.next start o in
           record {
-            trace = told_after;
+            after = told_after;
             tells = b.is;
+            count = count_next told moment what b.more adds.quiet_told;
             holds = record {
               breaks = record {
                 trace = b.next;
@@ -317,24 +334,25 @@ module _ {C S : Type 0} (standing : Standing C) (awaited : C → Option Ask) (nu
           tells = is;
           holds = record {
             run = subst P (sym same) (error_run answers drops names fails due first to budget printing files start now trace r.trace r.changes r.operations false r.made r.worked r.stands.served (came_over r.stands)
-                (files_all r.stands) (all router.table r.trace r.stands) r.waits (waiting router.table r.trace r.stands) r.reaches error refl (λ _. below));
+                (files_all r.stands) (all router.table r.trace r.stands) r.waits (waiting router.table r.trace r.stands) r.reaches (omega (arith, below)) error refl (λ _. below));
             replays = replays_whole total replaying (code_of status) trace b.replays b.goes;
           };
         }
 
     -- the run is over
     pub tells_ended : {new_files : FilesMeaning} (new : Router C A) (operators : Operators) (printing : Printing) (replaying : Replaying) (budget total : ℕ) (start now : Option (List ℕ)) (over : Bool)
-        (moment : ℕ) (trace : Trace) (told : Option Trace) → over ≡ true →
+        (moment : ℕ) (trace : Trace) (told : Option Trace) → heard_count trace < budget → over ≡ true →
         ToldNext (RestsNow standing awaited number made_due answers drops names state due first to new_files new operators printing replaying total start now over moment) trace told →
         Told (Ran answers drops names fails due first to budget Ended printing new_files total start now) told
-    tells_ended {new_files} new operators printing replaying budget total start now over moment trace told last next =
+    tells_ended {new_files} new operators printing replaying budget total start now over moment trace told below last next =
         let r = next.holds.rests in
+        let count = next.count in
         record {
           trace = next.after;
           tells = next.tells;
           holds = record {
             run = ended_run answers drops names fails due first to budget printing new_files start now next.after r.trace r.changes r.operations over r.made r.worked r.stands.served (came_over r.stands)
-                (files_all r.stands) (all new.table r.trace r.stands) r.waits (waiting new.table r.trace r.stands) r.reaches last;
+                (files_all r.stands) (all new.table r.trace r.stands) r.waits (waiting new.table r.trace r.stands) r.reaches (omega (arith, count, below)) last;
             replays = replays_then total 0 next.after (λ (e : 0 ≡ 5). cc) (λ (e : 0 ≡ 6). cc) next.holds.replays.in_turn next.holds.replays.none_waits;
           };
         }
@@ -365,12 +383,13 @@ module _ {C S : Type 0} (standing : Standing C) (awaited : C → Option Ask) (nu
         Told (Ran answers drops names fails due first to budget BudgetSpent printing files total start now) told
     tells_spent {files} router operators printing replaying total start now budget count told turn is =
         let r = turn.stands.rests in
+        let count : heard_count turn.trace ≡ budget = turn.counts ∙ is in
         record {
           trace = turn.trace;
           tells = turn.tells;
           holds = record {
             run = spent_run answers drops names fails due first to budget printing files start now turn.trace r.trace r.changes r.operations false r.made r.worked r.stands.served (came_over r.stands)
-                (files_all r.stands) (all router.table r.trace r.stands) r.waits (waiting router.table r.trace r.stands) r.reaches refl (turn.counts ∙ is);
+                (files_all r.stands) (all router.table r.trace r.stands) r.waits (waiting router.table r.trace r.stands) r.reaches (omega (arith, count)) refl count;
             replays = replays_whole total replaying 6 turn.trace turn.stands.replays turn.stands.goes;
           };
         }
@@ -457,7 +476,7 @@ error_first answers drops names fails due first to budget start error status tol
   tells = is;
   holds = let P : Status → Type 0 = λ s. IsRun answers drops names fails due first to budget s Whole first.files start start [] in
       subst P (sym same) (error_run answers drops names fails due first to budget Whole first.files start start [] [] [] [] false [] not_begun (empty_served answers due) (empty_answered answers due first)
-      (empty_leaves answers fails due first) (empty_told due) (before_empty (RestsBy answers due (begins_at first))) (empty_rests answers due first) (reaches_first to start) error refl (λ some. some));
+      (empty_leaves answers fails due first) (empty_told due) (before_empty (RestsBy answers due (begins_at first))) (empty_rests answers due first) (reaches_first to start) (omega arith) error refl (λ some. some));
 }
 
 -- so it is where a run did not begin

@@ -1,5 +1,5 @@
 -- What a run promises of its trace, of its status and of what is printed.
-use Rattle.std.specs.Prelude.{◌≡◌, ◌≢◌, ◌⊎◌, ◌<◌, ℕ, Bool, true, false, List, ◌++◌, Option, None}
+use Rattle.std.specs.Prelude.{◌≡◌, ◌≢◌, ◌⊎◌, ◌<◌, ◌≤◌, ℕ, Bool, true, false, List, ◌++◌, Option, None}
 use Rattle.px_event.specs.Trace.{Trace, BeforeEachHeard}
 use Rattle.px_outside.specs.Sink.{Writes, WritesPart}
 use Rattle.px_core.specs.Answered.{IsAnswered, LeavesFiles, RestsBy}
@@ -73,10 +73,12 @@ pub record HasCause (net_failed sink_failed : Type 0) (status : ℕ) : Type 0 wh
   pub statuses : (status ≡ 0) ⊎ ((status ≡ 5) ⊎ ((status ≡ 6) ⊎ ((status ≡ 7) ⊎ (status ≡ 8))))
   pub complete : ¬ net_failed → ¬ sink_failed → (status ≡ 0) ⊎ ((status ≡ 6) ⊎ (status ≡ 8))
 
--- The status by what was told, where so many things may be heard, from one on: whether the run was over, and how many things were heard.
+-- The status by what was told, where so many things may be heard: whether the run was over, and how many things were heard, which with every status are no more
+-- than that.
 pub record EndsSo (most status : ℕ) (over : Bool) (told : Trace) : Type 0 where
   pub ended : (status ≡ 0) ⊎ (status ≡ 7) → over ≡ true
   pub ends : over ≡ true → (status ≡ 0) ⊎ ((status ≡ 7) ⊎ (status ≡ 8))
+  pub within : heard_count told ≤ most
   pub budget : status ≡ 6 → (heard_count told ≡ most) × (over ≡ false)
   pub spent : 0 < most → heard_count told ≡ most → over ≡ false → (status ≡ 6) ⊎ (status ≡ 8)
 

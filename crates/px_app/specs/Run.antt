@@ -1,5 +1,5 @@
 -- What a run promises by its status.
-use Rattle.std.specs.Prelude.{◌≡◌, ◌≢◌, ◌⊎◌, ◌<◌, ℕ, ◌+◌, Bool, true, false, List, Option, Some, option_map}
+use Rattle.std.specs.Prelude.{◌≡◌, ◌≢◌, ◌⊎◌, ◌<◌, ◌≤◌, ℕ, ◌+◌, Bool, true, false, List, Option, Some, option_map}
 use Rattle.px_event.specs.Trace.{Trace, BeforeEachHeard}
 use Rattle.px_message.specs.declared.address.Address.{Address}
 use Rattle.px_outside.specs.Net.{Listening, at}
@@ -16,10 +16,12 @@ use Rattle.px_app.specs.declared.printing.Printing.{Printing}
 use Rattle.px_app.specs.declared.status.Status.{Status}
 use Rattle.px_app.specs.declared.status.Status.TheVariants.{Ended, BudgetSpent, NoMemory}
 
--- this status comes only where the run has its cause, which is over by what was heard last or is not, and where it has it
+-- this status comes only where the run has its cause, which is over by what was heard last or is not, and where it has it; and no more is heard than
+-- may be
 pub record IsEnd (budget : ℕ) (status : Status) (over : Bool) (told : Trace) : Type 0 where
   pub ended : status ≡ Ended → over ≡ true
   pub ends : over ≡ true → (status ≡ Ended) ⊎ (status ≡ NoMemory)
+  pub within : heard_count told ≤ budget
   pub count : status ≡ BudgetSpent → heard_count told ≡ budget
   pub goes_on : status ≡ BudgetSpent → over ≡ false
   pub spent : 0 < budget → heard_count told ≡ budget → over ≡ false → (status ≡ BudgetSpent) ⊎ (status ≡ NoMemory)

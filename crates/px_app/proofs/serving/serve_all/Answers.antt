@@ -7,7 +7,7 @@ use Rattle.px_app.proofs.serving.serve_all.Goals as goal
 pub returns-in-Err-clause-run : goal.returns-in-Err-clause-run
 returns-in-Err-clause-run g c = λ due first start owes now told.
     tells_memory g.C.Conversation.stands g.C.Conversation.awaited g.C.Conversation.number g.C.Owes.due g.met.C.Owes.gave g.C.Owes.grows g.A.Answerer.answers g.A.Answerer.drops g.A.Answerer.names g.A.Answerer.fails due first
-    (saves_to_of c.args.serving.now.saving) c.begin_replays.new.self.printing c.args.budget _ start _ _ (c.in-Err.ensures.err due first start _ owes now told)
+    (saves_to_of c.args.serving.now.saving) c.begin_replays.new.self.printing c.args.budget _ start _ _ _ (omega arith) (c.in-Err.ensures.err due first start _ owes now told)
 
 pub turns-init : goal.turns-init
 turns-init g c =

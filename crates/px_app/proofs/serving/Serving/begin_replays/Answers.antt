@@ -3,10 +3,10 @@ use Rattle.px_event.specs.Trace.{Trace}
 use Rattle.px_core.specs.Answers.{files_meaning}
 use Rattle.px_app.specs.declared.saving.Saving.{Saving}
 use Rattle.px_app.specs.Over.{goes_none}
-use Rattle.px_app.specs.Run.{Told, ToldOn}
+use Rattle.px_app.specs.Run.{ToldOn}
 use Rattle.px_app.specs.Saved.{saves_to_of}
 use Rattle.px_app.specs.Serving.{BrokeOff, RestsNow}
-use Rattle.px_app.proofs.BeginLemmas.{between_all, between_going, by_saving, on_by, on_next, on_none}
+use Rattle.px_app.proofs.BeginLemmas.{between_all, between_going, by_saving, on_behind, on_by, on_next, on_none}
 use Rattle.px_app.proofs.GoesLemmas.{goes_both, leaves_both, leaves_whole}
 use Rattle.px_app.proofs.NetLemmas.{on_err}
 use Rattle.px_app.proofs.StepLemmas.{goes_saving, leaves_saving}
@@ -67,11 +67,11 @@ returns-in_err-begin_next-clause-err g c = λ due first start trace owes now tol
     let before = c.begins.invariant in
     let at = before.begins due first start trace owes now told in
     let Broke : Option Saving → ℕ → Type 0 = λ s n. (after : Trace) → RestsNow g.C.Conversation.stands g.C.Conversation.awaited g.C.Conversation.number g.C.Owes.due g.A.Answerer.answers g.A.Answerer.drops g.A.Answerer.names g.A.Answerer.state due first (saves_to_of s) (files_meaning g.F.Files.contents g.F.Files.calls g.F.Files.misses g.F.Files.faults g.F.Files.losses c.begins.files) c.begins.self.router c.begins.self.operators c.begins.self.printing c.begins.self.replaying n start (g.S.Sink.written c.begins.out) false c.args.moment after → g.N.Net.trace c.begins.net ≡ Some after →
-    Told (BrokeOff g.A.Answerer.answers g.A.Answerer.drops g.A.Answerer.names g.A.Answerer.fails due first (saves_to_of s) (files_meaning g.F.Files.contents g.F.Files.calls g.F.Files.misses g.F.Files.faults g.F.Files.losses c.begin_next.new.files) n start (g.S.Sink.written c.begin_next.new.out)) (g.N.Net.trace c.begin_next.new.net) in
+    ToldOn (BrokeOff g.A.Answerer.answers g.A.Answerer.drops g.A.Answerer.names g.A.Answerer.fails due first (saves_to_of s) (files_meaning g.F.Files.contents g.F.Files.calls g.F.Files.misses g.F.Files.faults g.F.Files.losses c.begin_next.new.files) n start (g.S.Sink.written c.begin_next.new.out)) after (g.N.Net.trace c.begin_next.new.net) in
     on_err c.from_residual.result _
+    (on_behind _ _ trace _ _ at.0
     (by_saving Broke before.saving before.count
-    (λ after rests is. c.in_err-begin_next.ensures.err due first start after (λ n p m. before.due n p m ∙ owes n p m) rests is (sym at.1) c.if-self.false)
-    at.0.after at.0.holds at.0.tells)
+    (λ after rests is. c.in_err-begin_next.ensures.err due first start after (λ n p m. before.due n p m ∙ owes n p m) rests is (sym at.1) c.if-self.false)))
 
 pub returns-in_err-begin_next-clause-files : goal.returns-in_err-begin_next-clause-files
 returns-in_err-begin_next-clause-files g c =

@@ -11,7 +11,7 @@ use Rattle.px_app.proofs.BeginLemmas.{by_saving, goes_begun}
 use Rattle.px_app.proofs.GoesLemmas.{goes_both, leaves_both, leaves_whole}
 use Rattle.px_app.proofs.NetLemmas.{adds_told}
 use Rattle.px_app.proofs.RunLemmas.{if_err_by}
-use Rattle.px_app.proofs.StepLemmas.{goes_next, goes_saving, leaves_saving, tells_ended, tells_error, tells_memory}
+use Rattle.px_app.proofs.StepLemmas.{goes_next, goes_saving, leaves_saving, tells_ended, tells_error, tells_memory_next}
 use Rattle.px_app.proofs.serving.Serving.hear.Goals as goal
 
 pub returns-in_err-moment-clause-err : goal.returns-in_err-moment-clause-err
@@ -28,15 +28,15 @@ returns-in_err-over-clause-err g c = λ due first start trace budget owes betwee
     let P : Status → Type 0 = λ status. Told (Ran g.A.Answerer.answers g.A.Answerer.drops g.A.Answerer.names g.A.Answerer.fails due first (saves_to_of c.args.self.now.saving) budget status c.take.new.self.printing now (g.M.Maker.alone c.args.self.now.maker) start (g.S.Sink.written c.take.new.out)) (g.N.Net.trace c.take.new.net) in
     if_err_by c.from_residual-in_err-over.result _ _ c.from_residual-in_err-over.ensures.1
     (λ status same. subst P (sym same)
-    (tells_memory g.C.Conversation.stands g.C.Conversation.awaited g.C.Conversation.number g.C.Owes.due g.met.C.Owes.gave g.C.Owes.grows g.A.Answerer.answers g.A.Answerer.drops g.A.Answerer.names
-    g.A.Answerer.fails due first (saves_to_of c.args.self.now.saving) c.take.new.self.printing budget _ start _ _ (c.in_err-over.ensures.err due first start trace owes between heard)))
+    (tells_memory_next g.C.Conversation.stands g.C.Conversation.awaited g.C.Conversation.number g.C.Owes.due g.met.C.Owes.gave g.C.Owes.grows g.A.Answerer.answers g.A.Answerer.drops g.A.Answerer.names
+    g.A.Answerer.fails due first (saves_to_of c.args.self.now.saving) c.take.new.self.printing budget _ start _ trace _ below (c.in_err-over.ensures.err due first start trace owes between heard)))
 
 pub returns-then-over-clause-err : goal.returns-then-over-clause-err
 returns-then-over-clause-err g c = λ due first start trace budget owes between told below.
     let heard = adds_told _ _ _ trace told c.in_ok-moment.ensures.heard in
     tells_ended g.C.Conversation.stands g.C.Conversation.awaited g.C.Conversation.number g.C.Owes.due g.met.C.Owes.gave g.C.Owes.grows g.A.Answerer.answers g.A.Answerer.drops g.A.Answerer.names
     g.A.Answerer.fails due first (saves_to_of c.args.self.now.saving) c.take.new.self.router c.take.new.self.operators c.take.new.self.printing c.take.new.self.replaying budget _ start _ _ _ trace _
-    c.if-over.true (c.in_ok-over.ensures.ok due first start trace owes between heard)
+    below c.if-over.true (c.in_ok-over.ensures.ok due first start trace owes between heard)
 
 pub returns-in_err-begin_replays-clause-err : goal.returns-in_err-begin_replays-clause-err
 returns-in_err-begin_replays-clause-err g c = λ due first start trace budget owes between told below.
@@ -45,14 +45,14 @@ returns-in_err-begin_replays-clause-err g c = λ due first start trace budget ow
     g.A.Answerer.fails due first (saves_to_of c.args.self.now.saving) c.take.new.self.router c.take.new.self.operators c.take.new.self.printing c.take.new.self.replaying _ start _ _ _ trace _
     c.if-over.false (c.in_ok-over.ensures.ok due first start trace owes between heard) in
     let Broke : Option Saving → ℕ → Type 0 = λ s n. (after : Trace) → RestsNow g.C.Conversation.stands g.C.Conversation.awaited g.C.Conversation.number g.C.Owes.due g.A.Answerer.answers g.A.Answerer.drops g.A.Answerer.names g.A.Answerer.state due first (saves_to_of s) (files_meaning g.F.Files.contents g.F.Files.calls g.F.Files.misses g.F.Files.faults g.F.Files.losses c.take.new.files) c.take.new.self.router c.take.new.self.operators c.take.new.self.printing c.take.new.self.replaying n start (g.S.Sink.written c.take.new.out) false c.in_ok-moment.moment after → g.N.Net.trace c.take.new.net ≡ Some after →
-    Told (BrokeOff g.A.Answerer.answers g.A.Answerer.drops g.A.Answerer.names g.A.Answerer.fails due first (saves_to_of s) (files_meaning g.F.Files.contents g.F.Files.calls g.F.Files.misses g.F.Files.faults g.F.Files.losses c.begin_replays.new.files) n start (g.S.Sink.written c.begin_replays.new.out)) (g.N.Net.trace c.begin_replays.new.net) in
+    ToldOn (BrokeOff g.A.Answerer.answers g.A.Answerer.drops g.A.Answerer.names g.A.Answerer.fails due first (saves_to_of s) (files_meaning g.F.Files.contents g.F.Files.calls g.F.Files.misses g.F.Files.faults g.F.Files.losses c.begin_replays.new.files) n start (g.S.Sink.written c.begin_replays.new.out)) after (g.N.Net.trace c.begin_replays.new.net) in
     let broke = by_saving Broke c.in_ok-over.ensures.saving c.in_ok-over.ensures.count
     (λ after rests is. c.in_err-begin_replays.ensures.err due first start after (λ n at moves. c.in_ok-over.ensures.due n at moves ∙ owes n at moves) rests is) in
     let P : Status → Type 0 = λ status. Told (Ran g.A.Answerer.answers g.A.Answerer.drops g.A.Answerer.names g.A.Answerer.fails due first (saves_to_of c.args.self.now.saving) budget status c.begin_replays.new.self.printing (files_meaning g.F.Files.contents g.F.Files.calls g.F.Files.misses g.F.Files.faults g.F.Files.losses c.begin_replays.new.files) (g.M.Maker.alone c.args.self.now.maker) start (g.S.Sink.written c.begin_replays.new.out)) (g.N.Net.trace c.begin_replays.new.net) in
     if_err_by c.from_residual-in_err-begin_replays.result _ _ c.from_residual-in_err-begin_replays.ensures.1
     (λ status same. subst P (sym same)
-    (tells_memory g.C.Conversation.stands g.C.Conversation.awaited g.C.Conversation.number g.C.Owes.due g.met.C.Owes.gave g.C.Owes.grows g.A.Answerer.answers g.A.Answerer.drops g.A.Answerer.names
-    g.A.Answerer.fails due first (saves_to_of c.args.self.now.saving) c.begin_replays.new.self.printing budget _ start _ _ (broke next.after next.holds next.tells)))
+    (tells_memory_next g.C.Conversation.stands g.C.Conversation.awaited g.C.Conversation.number g.C.Owes.due g.met.C.Owes.gave g.C.Owes.grows g.A.Answerer.answers g.A.Answerer.drops g.A.Answerer.names
+    g.A.Answerer.fails due first (saves_to_of c.args.self.now.saving) c.begin_replays.new.self.printing budget _ start _ trace _ below (goes_begun _ _ trace _ _ next broke)))
 
 pub returns-clause-ok : goal.returns-clause-ok
 returns-clause-ok g c = λ due first start trace owes between told.
