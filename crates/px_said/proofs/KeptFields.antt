@@ -5,6 +5,7 @@ use Rattle.std.specs.List.{flat_map, list_any}
 use Rattle.px_text.specs.Number.{decimal_value}
 use Rattle.px_message.specs.Fields.{elements, is_named, is_same_name, is_valued, parts, values_of}
 use Rattle.px_message.specs.Length.{agreed, by_stated, content_length, ends_chunked, is_framed_in_chunks, request_length, stands, stated_length, transfer_encoding}
+use Rattle.px_message.specs.Settle.{framing, is_framing}
 use Rattle.px_message.specs.declared.length.Length.{Length}
 use Rattle.px_message.specs.declared.length.Length.TheVariants as lengths
 use Rattle.px_message.specs.declared.fault.Fault.{Fault}
@@ -77,6 +78,13 @@ pub length_kept : (q : Test) (fields : List (List ℕ × List ℕ)) → SparesNa
 length_kept q fields coding length =
     λ i. length_by (stands_kept q transfer_encoding fields coding i) (stands_kept q content_length fields length i) (framed_kept q fields coding i)
     (stated_kept q fields length i)
+
+pub framing_kept : (q : Test) (fields : List (List ℕ × List ℕ)) → SparesName q transfer_encoding → SparesName q content_length → framing (without_passing q fields) ≡ framing fields
+framing_kept q fields coding length = kept is_framing q (λ field at. by_name field (is_named transfer_encoding field) refl at) fields
+  where
+    by_name : (field : List ℕ × List ℕ) (b : Bool) → is_named transfer_encoding field ≡ b → (is_named transfer_encoding field || is_named content_length field) ≡ true → q field ≡ false
+    by_name field true is at = coding field is
+    by_name field false is at = length field (ap (λ b. b || is_named content_length field) (sym is) ∙ at)
 
 -- ---- the expectation
 

@@ -19,3 +19,17 @@ pub mod SaysRequests
 pub mod SaysResponses
 pub mod SaysAll
 pub mod SaysOne
+pub mod LineFronts
+pub mod LineQuiet
+pub mod LineLooks
+pub mod LineStages
+pub mod LineSeen
+pub mod LineTurns
+pub mod LinePasses
+pub mod LineReturns
+pub mod LineExact
+pub mod LineMore
+pub mod LineWalk
+pub mod LineExamples
+pub mod SaysStreams
+pub mod SaysCame

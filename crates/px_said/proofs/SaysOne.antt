@@ -4,6 +4,7 @@ use Rattle.std.specs.Prelude.{if◌then◌else◌}
 use Rattle.px_read.specs.Items.{Body, Item, complete}
 use Rattle.px_write.specs.ReadBack.{one_chunk}
 use Rattle.px_message.specs.Length.{is_framed_in_chunks}
+use Rattle.px_said.specs.WhatCame.{OneRequestComes, OneResponseComes}
 use Rattle.px_said.specs.WhatWasRead.{OneRequestIsSaid, OneResponseIsSaid}
 
 abbrev body_by : Bool → List ℕ → Body
@@ -37,3 +38,22 @@ pub one_response : OneResponseIsSaid
 one_response asked_head text head other body its trailers more said also readable readable_too =
     one_whole head other (is_framed_in_chunks head.fields) (is_framed_in_chunks other.fields) body.content its.content trailers more _ _
     (sym (said.reads readable true [] (inr (refl, refl))) ∙ also.reads readable_too true [] (inr (refl, refl)))
+
+-- ---- of what is streamed
+
+same_whole : {H : Type 0} (head other : H) (body own : Body) (trailers more : List (List ℕ × List ℕ)) (used size : ℕ)
+    → ◌≡◌ {A = Item H} (complete head body trailers used) (complete other own more size) → (head ≡ other) × (body ≡ own) × (trailers ≡ more)
+same_whole head other body own trailers more used size is =
+    let heads : head ≡ other = (let e = is in cc) in
+    let bodies : body ≡ own = (let e = is in cc) in
+    let fields : trailers ≡ more = (let e = is in cc) in
+    (heads, bodies, fields)
+
+pub one_request_comes : OneRequestComes
+one_request_comes place text head other bytes its says also body trailers used whole readable own more size whole_too readable_too =
+    same_whole _ _ body own trailers more _ _ (sym (says.reads body trailers used whole readable []) ∙ also.reads own more size whole_too readable_too [])
+
+pub one_response_comes : OneResponseComes
+one_response_comes asked_head text closed shut head other bytes its says also body trailers used whole readable own more size whole_too readable_too =
+    same_whole head other body own trailers more _ _
+    (sym (says.reads body trailers used whole readable true [] (inr (refl, refl))) ∙ also.reads own more size whole_too readable_too true [] (inr (refl, refl)))

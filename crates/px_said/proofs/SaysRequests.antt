@@ -7,7 +7,7 @@ use Rattle.std.proofs.lemmas.List.Sums.{count_by-le-length, length-filter}
 use Rattle.httparse.specs.Grammar.{AllPass, is_token, is_uri_byte}
 use Rattle.px_head.specs.Laws.{IsPair}
 use Rattle.px_message.specs.Length.{is_framed_in_chunks, request_length}
-use Rattle.px_message.specs.Settle.{Fits, settled_request}
+use Rattle.px_message.specs.Settle.{Fits, framing, settled_request}
 use Rattle.px_message.specs.Target.{Form, absolute, asterisk, authority, origin, target_form}
 use Rattle.px_message.specs.declared.address.Address.{Address}
 use Rattle.px_message.specs.declared.fault.Fault.{Fault}
@@ -40,7 +40,7 @@ use Rattle.px_exchange.specs.declared.place.Place.TheVariants as places
 use Rattle.px_said.specs.ClosedForm.{whole_request}
 use Rattle.px_said.specs.WhatWasRead.{KeepsTarget, SaysRequest, head_text, is_met, sent_head}
 use Rattle.px_said.proofs.ClosedItems.{no_tunnel}
-use Rattle.px_said.proofs.KeptFields.{all_kept, framed_kept, length_kept, none_taken, spares_coding, spares_length}
+use Rattle.px_said.proofs.KeptFields.{all_kept, framed_kept, framing_kept, length_kept, none_taken, spares_coding, spares_length}
 use Rattle.px_said.proofs.PartsRead.{request_parts}
 use Rattle.px_said.proofs.ReadAgain.{IsPlainHead, request_again}
 use Rattle.px_said.proofs.TargetsRead.{absolute_read, path_bytes, path_read}
@@ -50,7 +50,7 @@ use Rattle.px_said.proofs.TargetsRead.{absolute_read, path_bytes, path_read}
 abbrev fields_sent : Version → List (List ℕ × List ℕ) → List (List ℕ × List ℕ)
 fields_sent version fields = filter (λ field. not (is_met version field)) fields
 
-fields_as_asked : (version : Version) (fields : List (List ℕ × List ℕ))
+pub fields_as_asked : (version : Version) (fields : List (List ℕ × List ℕ))
     → unless_met (is_http11 version && list_any is_expectation fields) fields ≡ fields_sent version fields
 fields_as_asked Http10 fields = sym (all_kept fields)
 fields_as_asked Http11 fields = by_test (list_any is_expectation fields) refl
@@ -66,6 +66,10 @@ length_sent Http11 fields = length_kept is_expectation fields spares_coding spar
 framed_sent : (version : Version) (fields : List (List ℕ × List ℕ)) → is_framed_in_chunks (fields_sent version fields) ≡ is_framed_in_chunks fields
 framed_sent Http10 fields = ap is_framed_in_chunks (all_kept fields)
 framed_sent Http11 fields = framed_kept is_expectation fields spares_coding
+
+pub framing_sent : (version : Version) (fields : List (List ℕ × List ℕ)) → framing (fields_sent version fields) ≡ framing fields
+framing_sent Http10 fields = ap framing (all_kept fields)
+framing_sent Http11 fields = framing_kept is_expectation fields spares_coding spares_length
 
 fields_still_read : (version : Version) (fields : List (List ℕ × List ℕ)) → AreReadFields fields → AreReadFields (fields_sent version fields)
 fields_still_read version fields read =
@@ -183,6 +187,17 @@ target_sent (places.Upstream proxy) method read address path no_connect text goa
       utf8 = plain.1.utf8;
     }
 
+-- the target that is sent keeps what was read, also of a request that is not whole
+pub target_kept : (place : Place) (method read : List ℕ) (address : Address) (path : List ℕ) → method ≢ connect_method → goal_at place (target_form method read) ≡ Some (address, path)
+    → KeepsTarget place method read (target_text (form_at place) address.host address.port path)
+target_kept (places.Fixed own side inside) method read address path no_connect goal = path_of_goal (places.Fixed own side inside) (target_form method read) address path goal
+target_kept places.Regular method read address path no_connect goal = path_of_goal places.Regular (target_form method read) address path goal
+target_kept (places.Upstream proxy) method read address path no_connect goal =
+    let form = form_goal (target_form method read) address path goal in
+    let url = absolute_read method read address.host address.port path form in
+    let port = url.address.valid_port in
+    absolute-back method address.host path address.port no_connect url.address.valid_host url.valid_path url.named port.low port.high ∙ sym form
+
 -- ---- the text
 
 module _ (place : Place) (bytes : List ℕ) (head : RequestHead) (body : Body) (trailers : List (List ℕ × List ℕ)) (used : ℕ) where
@@ -197,10 +212,10 @@ module _ (place : Place) (bytes : List ℕ) (head : RequestHead) (body : Body) (
     abbrev sent : RequestHead
     sent = sent_head head target
 
-    as_asked : fields_asked head ≡ sent.fields
+    pub as_asked : fields_asked head ≡ sent.fields
     as_asked = fields_as_asked head.version head.fields
 
-    valid : (AllPass is_uri_byte head.target × IsUtf8 head.target) × AreReadFields head.fields × AreReadFields trailers
+    pub valid : (AllPass is_uri_byte head.target × IsUtf8 head.target) × AreReadFields head.fields × AreReadFields trailers
     valid = request-valid bytes head body trailers used whole
 
     to : IsSentTarget place head.method head.target target
@@ -216,7 +231,7 @@ module _ (place : Place) (bytes : List ℕ) (head : RequestHead) (body : Body) (
     stays : settled_request request ≡ request
     stays = whole_request-stays request (subst (λ (fields : List (List ℕ × List ℕ)). Fits (request_length fields) body.content trailers) (sym as_asked) fits)
 
-    plain : IsPlainHead sent
+    pub plain : IsPlainHead sent
     plain =
         let parts = request_parts bytes head body trailers used whole in
         record {

@@ -11,6 +11,7 @@ use Rattle.px_exchange.specs.declared.terms.Terms.{Terms}
 use Rattle.px_chain.specs.Behind.{used_behind}
 use Rattle.px_chain.specs.Chain.{http_chain, sequence}
 use Rattle.px_said.specs.ClosedForm.{Point, dial_answers}
+use Rattle.px_said.specs.Lines.{Start}
 use Rattle.px_chain.specs.Sights.{Standing}
 use Rattle.px_chain.specs.Stages.{At, idle, side_parked}
 
@@ -119,3 +120,17 @@ pub record FlowBegins (terms : Terms) (here : Walk) (before : List Command) (num
   pub awaits : there.place.stage ≡ idle at
   pub flow : at.flow ≡ number
   pub comes : ComesBy terms here there before
+
+-- the same, with the replies from here on
+abbrev pub start_at : At → Walk → Start
+start_at at here =
+    let point = point_at at here in record {
+      flow = point.flow;
+      server = point.server;
+      bytes = point.bytes;
+      events = point.events;
+      replies = answered here;
+      parked = point.parked;
+      opened = point.opened;
+      used = point.used;
+    }

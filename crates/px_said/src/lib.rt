@@ -9,6 +9,11 @@
 //! the connection goes on, the same of the second request and of server 1, which is dialled once the first response is whole. What was read is the first request, those responses, the second request, and its responses: each
 //! text says one of these, in this order and without a gap.
 //!
+//! Over any size that the replies allow it is the same by each side's line: `specs/Lines.antt` has the closed form where a message may be streamed, a request, a response, or both at once, and `specs/WhatCame.antt` what its texts
+//! say. With both at once what goes to a server is in no order with what goes to the client, so there what is due is compared with the closed form in each view of `px_event`. Over `POST / HTTP/1.1` with a body that is streamed, server
+//! 0 is dialled as soon as the request is, and is sent its head and body as they come; meanwhile the client is sent what comes of the response. Where that is whole first it is said whole, and nothing more of the request
+//! is sent; where the request is at fault first, the client hears so, unless it was sent a byte of the response.
+//!
 //! A second form of a definition finds what laws of growth and of order do not: a turn that takes the wrong one of two requests keeps them all.
 #![tactic(auto)]
 
