@@ -30,15 +30,17 @@ use Rattle.px_exchange.specs.Requests.{is_head}
 use Rattle.px_exchange.specs.Texts.{interim_command, interim_commands}
 use Rattle.px_parts.specs.Texts.{left_of}
 use Rattle.px_parts.proofs.TextLemmas.{final_text-grows}
-use Rattle.px_chain.specs.Chain.{IsOnward, begin_up, begins_going, behind_flow, come_down, end_by, end_up, find, goes_to, goes_up_by, going_at, gone, gone_by, gone_up, http_chain, is_alone, is_sequence, leaving, look, parked_for, pass, pass_came, pass_given, pass_going, pass_kept, passed, past_came, past_gone, past_kept, sequence, sight_begun, sight_come, sight_ended, sight_gone, sight_past, so_far, used_by_begin, used_by_came, used_by_coming, used_by_end, used_by_gone, used_by_kept, used_by_pass}
+use Rattle.px_chain.specs.Chain.{IsOnward, begin_up, behind_flow, come_down, end_by, end_up, find, goes_to, goes_up_by, going_at, gone, gone_by, gone_up, http_chain, is_alone, is_sequence, keeps_came, leaving, look, parked_for, pass, pass_body, pass_came, pass_given, pass_going, pass_kept, passed, past_came, past_gone, past_kept, sequence, sight_begun, sight_come, sight_ended, sight_gone, sight_past, so_far, used_by_begin, used_by_came, used_by_coming, used_by_end, used_by_gone, used_by_kept, used_by_pass}
+use Rattle.px_chain.specs.Keeping.{is_silent, parks, shut_by_byte, shut_stray, unspoilt, unspoilt_at, unspoilt_by}
 use Rattle.px_chain.specs.Coming.{Came, came_in, coming_by, coming_text, framed_as, goes_on_behind, sends_coming, streaming, streams_in}
-use Rattle.px_chain.specs.Going.{going_text, is_sent, sending_on, sends_going, sends_up, whole_in, with_whole}
+use Rattle.px_chain.specs.Going.{goes_up, going_text, is_sent, sending_on, sends_going, sends_up, whole_in, with_whole}
 use Rattle.px_chain.specs.Sights.{Sight, Standing, UsedBytes, answers_in, bytes_over, left_by, request_in, shut_over, sight_over, used_with}
-use Rattle.px_chain.specs.Stages.{At, Doing, Sent, Stage, all_sent, busy, coming_down, connection, given_body, given_head, going_up, idle, next, over, request_body, response_body, response_head, side_in, unparked, upgraded}
+use Rattle.px_chain.specs.Stages.{At, Doing, Parked, Sent, Stage, all_sent, busy, coming_down, connection, given_body, given_head, going_up, idle, next, over, request_body, response_body, response_head, side_in, side_parked, upgraded}
 use Rattle.px_chain.specs.Streams.{Since, bytes_of, client_closed, is_closed}
 use Rattle.px_chain.proofs.FrontLaws.{DropMore, behind, none, bytes_more, bytes_shut, closed_stays, drop_more, open_behind}
 use Rattle.px_chain.proofs.GoingLaws.{client_on, drop_begins, going_text_grows}
-use Rattle.px_chain.proofs.SightLaws.{sight_passed}
+use Rattle.px_chain.proofs.KeepingLaws.{silent_nothing}
+use Rattle.px_chain.proofs.SightLaws.{begin_uses, sight_passed}
 
 -- ---- passing settles at once
 
@@ -129,13 +131,13 @@ up_still : (terms : Terms) (side : Option ℕ) (at : At) (flow : Flow) (seen : S
 up_still terms None at flow seen = record { goes = refl; left = refl; uses = λ used. refl }
 up_still terms (Some server) at flow seen = record { goes = refl; left = refl; uses = λ used. refl }
 
-going_twice : (terms : Terms) (at : At) (flow : Flow) (size : Option ℕ) (seen : Sight) (up : Bool) → begins_going terms.place at flow size seen ≡ up → BeginStays terms (pass_going up terms.place at flow size) seen
-going_twice terms at flow size seen true is = up_still terms (parked_for terms.place flow.request at.parked) at (sending_on flow) seen
-going_twice terms at flow size seen false is = record { goes = ap (λ up. pass_going up terms.place at flow size) is; left = refl; uses = λ used. refl }
+going_twice : (terms : Terms) (at : At) (flow : Flow) (size : Option ℕ) (seen : Sight) (up : Bool) → goes_up size seen ≡ up → BeginStays terms (pass_going up terms.place at flow size seen) seen
+going_twice terms at flow size seen true is = up_still terms (parked_for terms.place flow.request (unspoilt_at at seen).parked) at (sending_on flow) seen
+going_twice terms at flow size seen false is = record { goes = ap (λ up. pass_going up terms.place at flow size seen) is; left = refl; uses = λ used. refl }
 
 begin_twice : (terms : Terms) (stage : Stage) (seen : Sight) → BeginStays terms (begin_up terms stage seen) (sight_begun stage seen)
 begin_twice terms (idle at) seen = record { goes = refl; left = refl; uses = λ used. refl }
-begin_twice terms (busy at flow (request_body None size)) seen = going_twice terms at flow size seen (begins_going terms.place at flow size seen) refl
+begin_twice terms (busy at flow (request_body None size)) seen = going_twice terms at flow size seen (goes_up size seen) refl
 begin_twice terms (busy at flow (request_body (Some response) size)) seen = given_twice terms at flow response size seen (request_in seen) refl
 begin_twice terms (busy at flow (connection how)) seen = record { goes = refl; left = refl; uses = λ used. refl }
 begin_twice terms (busy at flow (response_head side how)) seen = record { goes = refl; left = refl; uses = λ used. refl }
@@ -198,15 +200,16 @@ behind_twice false terms at seen = record { goes = refl; uses = λ used. refl }
 
 came_twice : (terms : Terms) (at : At) (flow : Flow) (side : ℕ) (how : Sent) (seen : Sight) (came : Option Came) → came_in flow seen ≡ came →
     ComeStays terms (pass_came terms.place at flow side how seen came).stage (past_came came seen)
-came_twice terms at flow side how seen None is = record { goes = ap (pass_came terms.place at flow side how seen) is; uses = λ used. ap (λ c. used_by_came c used) is }
-came_twice terms at flow side how seen (Some came) is = behind_twice (is_sent how && goes_on_behind at.flow flow.request came) terms (unparked at) (past_came (Some came) seen)
+came_twice terms at flow side how seen None is = record { goes = ap (pass_came terms.place at flow side how seen) is; uses = λ used. ap (λ c. used_by_came at flow how seen c used) is }
+came_twice terms at flow side how seen (Some came) is =
+    behind_twice (is_sent how && goes_on_behind at.flow flow.request came) terms (parks (keeps_came at flow how seen came) terms.place at flow.request side) (past_came (Some came) seen)
 
 kept_twice : (terms : Terms) (at : At) (flow : Flow) (side : ℕ) (how : Sent) (most : Option ℕ) (seen : Sight) (streams : Bool) → streams_in flow most seen ≡ streams →
     ComeStays terms (pass_kept streams terms.place at flow side how most seen).stage (past_kept streams (came_in (streaming flow) seen) seen)
 kept_twice terms at flow side how most seen true is = came_twice terms at (streaming flow) side how seen (came_in (streaming flow) seen) refl
 kept_twice terms at flow side how most seen false is = record {
   goes = ap (λ s. pass_kept s terms.place at flow side how most seen) is;
-  uses = λ used. ap (λ s. used_by_kept s (came_in (streaming flow) seen) used) is;
+  uses = λ used. ap (λ s. used_by_kept s at (streaming flow) how seen (came_in (streaming flow) seen) used) is;
 }
 
 come_twice : (terms : Terms) (stage : Stage) (seen : Sight) → ComeStays terms (come_down terms stage seen).stage (sight_come stage seen)
@@ -234,7 +237,8 @@ behind_ups false terms at seen = record { begins = record { goes = refl; left = 
 came_ups : (terms : Terms) (at : At) (flow : Flow) (side : ℕ) (how : Sent) (seen : Sight) (came : Option Came) → gone_by (going_at (coming_down side how)) (whole_in seen) ≡ None →
     UpStays terms (pass_came terms.place at flow side how seen came).stage (past_came came seen)
 came_ups terms at flow side how seen None is = record { begins = record { goes = refl; left = refl; uses = λ used. refl }; up_to = is }
-came_ups terms at flow side how seen (Some came) is = behind_ups (is_sent how && goes_on_behind at.flow flow.request came) terms (unparked at) (past_came (Some came) seen)
+came_ups terms at flow side how seen (Some came) is =
+    behind_ups (is_sent how && goes_on_behind at.flow flow.request came) terms (parks (keeps_came at flow how seen came) terms.place at flow.request side) (past_came (Some came) seen)
 
 body_goes : (side : ℕ) (how : Sent) (most : Option ℕ) → going_at (coming_down side how) ≡ going_at (response_body side how most)
 body_goes side all_sent most = refl
@@ -331,7 +335,7 @@ open_by true leaves (Asks ask) is = absurd (let e : Asks ask ≡ NotYet = is in 
 open_by true leaves (Ends owed) is = absurd (let e : Ends owed ≡ NotYet = is in cc)
 
 pub open_still : (terms : Terms) (stage : Stage) (seen : Sight) → look terms stage seen ≡ NotYet → seen.closed ≡ false
-open_still terms stage seen is = open_by seen.closed (leaving stage seen) (find terms stage seen) is
+open_still terms stage seen is = open_by seen.closed (leaving (unspoilt stage seen) seen) (find terms stage seen) is
 
 -- ---- growth
 
@@ -555,14 +559,140 @@ both_grow view place flow side going_up seen later owed more grows same unseen o
     up_grows view side (left_of seen.told (going_text place flow seen)) (left_of later.told (going_text place flow later)) owed more
     (rw same (left_prefix seen.told (going_text place flow seen) (going_text place flow later) (going_text_grows place flow seen later grows))) unseen on
 
+-- ---- of a parked side of which a byte came
+
+-- what is owed of it grows with its bytes
+nothing_front : {A : Type 0} (xs ys : List A) → xs ++ ys ≡ [] → xs ≡ []
+nothing_front [] ys is = refl
+nothing_front (x ∷ xs) ys is = absurd (let e : x ∷ (xs ++ ys) ≡ [] = is in cc)
+
+nothing_before : (shut later_shut : Bool) (bytes later : List ℕ) → HearsOn shut bytes later_shut later → later ≡ [] → bytes ≡ []
+nothing_before shut later_shut bytes later (hears_same closed same) is = sym same ∙ is
+nothing_before shut later_shut bytes later (hears_more closed (more, on)) is = nothing_front bytes more (sym on ∙ is)
+
+-- of a side of which nothing came nothing is owed
+silent_strays : (parked : Option Parked) (seen later : Sight) → ((side : ℕ) → side_parked parked ≡ Some side → HearsOn seen.shut seen.server later.shut later.server) →
+    later.server ≡ [] → shut_stray parked seen ≡ []
+silent_strays None seen later hears is = refl
+silent_strays (Some parked) seen later hears is =
+    ap (λ l. shut_by_byte parked.server l) (nothing_before seen.shut later.shut seen.server later.server (hears parked.server refl) is)
+
+nothing_grows : (view : View) (owed : List Command) (more : List Atom) → owed ≡ [] → IsPrefixOf (seen_of view owed) more
+nothing_grows view owed more is = subst (λ l. IsPrefixOf (seen_of view l) more) (sym is) (more, refl)
+
+byte_grows : (view : View) (server front : ℕ) (seen more : List ℕ) (rest : List Command) → IsPrefixOf (front ∷ seen) more →
+    IsPrefixOf (seen_of view (shut_by_byte server (front ∷ seen) ++ [])) (seen_of view ((shut_by_byte server more ++ []) ++ rest))
+byte_grows view server front seen more rest (on, is) = rw is (seen_of view rest, seen_more view (shut_by_byte server (front ∷ seen) ++ []) rest)
+
+bytes_grow_by : (view : View) (server : ℕ) (seen more : List ℕ) (rest : List Command) → IsPrefixOf seen more →
+    IsPrefixOf (seen_of view (shut_by_byte server seen ++ [])) (seen_of view ((shut_by_byte server more ++ []) ++ rest))
+bytes_grow_by view server [] more rest on = (_, refl)
+bytes_grow_by view server (front ∷ seen) more rest on = byte_grows view server front seen more rest on
+
+hears_prefix : (shut later_shut : Bool) (bytes later : List ℕ) → HearsOn shut bytes later_shut later → IsPrefixOf bytes later
+hears_prefix shut later_shut bytes later (hears_same closed same) = ([], same ∙ sym (append-nil bytes))
+hears_prefix shut later_shut bytes later (hears_more closed on) = on
+
+pub stray_grows : (view : View) (parked : Option Parked) (seen later : Sight) (rest : List Command) →
+    ((side : ℕ) → side_parked parked ≡ Some side → HearsOn seen.shut seen.server later.shut later.server) →
+    IsPrefixOf (seen_of view (shut_stray parked seen ++ [])) (seen_of view ((shut_stray parked later ++ []) ++ rest))
+stray_grows view None seen later rest hears = (_, refl)
+stray_grows view (Some parked) seen later rest hears =
+    bytes_grow_by view parked.server seen.server later.server rest (hears_prefix seen.shut later.shut seen.server later.server (hears parked.server refl))
+
+-- a stage at which no flow uses a side
+data IsResting (at : At) (to : Stage) : Type 0 where
+  rests : (flow : Flow) (given : Option Response) (size : Option ℕ) → to ≡ busy at flow (request_body given size) → IsResting at to
+  dials : (flow : Flow) (how : Sent) → to ≡ busy at flow (connection how) → IsResting at to
+  gives : (flow : Flow) → to ≡ busy at flow given_head → IsResting at to
+
+given_rests : (at : At) (flow : Flow) (response : Response) (size : Option ℕ) (item : Item ReadRequest) (now : ℕ) → IsResting at (pass_given at flow response size item now)
+given_rests at flow response size missing now = rests _ _ _ refl
+given_rests at flow response size (part head body) now = rests _ _ _ refl
+given_rests at flow response size (complete head body trailers used) now = gives _ refl
+given_rests at flow response size (bad_head fault) now = rests _ _ _ refl
+given_rests at flow response size (bad_body fault head body) now = rests _ _ _ refl
+
+-- a request that is streamed goes to no side that is not silent
+going_rests : (up : Bool) (place : Place) (at : At) (flow : Flow) (size : Option ℕ) (seen : Sight) → is_silent seen.server seen.shut ≡ false →
+    IsResting at (pass_going up place at flow size seen)
+going_rests true place at flow size seen is =
+    dials (sending_on flow) going_up (ap (λ silent. goes_up_by (parked_for place flow.request (unspoilt_by silent at.parked)) place at (sending_on flow)) is)
+going_rests false place at flow size seen is = rests _ _ _ refl
+
+body_rests : (place : Place) (at : At) (flow : Flow) (given : Option Response) (size : Option ℕ) (seen : Sight) → is_silent seen.server seen.shut ≡ false →
+    IsResting at (pass_body place at flow given size seen)
+body_rests place at flow None size seen is = going_rests (goes_up size seen) place at flow size seen is
+body_rests place at flow (Some response) size seen is = given_rests at flow response size (request_in seen) seen.now
+
+-- from there on nothing is owed but its close
+abbrev pub passes_from : Terms → Stage → Sight → Turn Stage Command
+passes_from terms to left = behind_turn (end_up terms to left) (come_down terms (end_up terms to left).stage (sight_ended to left))
+
+record StraysOn (onward : Stage → Stage) (terms : Terms) (at : At) (to : Stage) (left : Sight) : Type 0 where
+  owed : (passes_from terms to left).owed ≡ []
+  so_far : (past : Sight) → so_far terms (onward (passes_from terms to left).stage) past ≡ shut_stray at.parked past ++ []
+  past : sight_come (end_up terms to left).stage (sight_ended to left) ≡ left
+
+strays_on : (onward : Stage → Stage) → IsOnward onward → (terms : Terms) (at : At) (to : Stage) (left : Sight) → IsResting at to → StraysOn onward terms at to left
+strays_on onward goes terms at to left (rests flow given size is) = rw is (record {
+  owed = refl;
+  so_far = λ past. ap (λ s. so_far terms s past) (busy_onward onward goes at flow (request_body given size));
+  past = refl;
+})
+strays_on onward goes terms at to left (dials flow how is) = rw is (record {
+  owed = refl;
+  so_far = λ past. ap (λ s. so_far terms s past) (busy_onward onward goes at flow (connection how));
+  past = refl;
+})
+strays_on onward goes terms at to left (gives flow is) = rw is (record {
+  owed = refl;
+  so_far = λ past. ap (λ s. so_far terms s past) (busy_onward onward goes at flow given_head);
+  past = refl;
+})
+
+body_grows : (silent : Bool) (onward : Stage → Stage) → IsOnward onward → (terms : Terms) (view : View) (at : At) (flow : Flow) (given : Option Response) (size : Option ℕ) (seen later past : Sight) (rest : List Command) →
+    is_silent later.server later.shut ≡ silent →
+    ((side : ℕ) → side_parked at.parked ≡ Some side → HearsOn seen.shut seen.server later.shut later.server) →
+    past ≡ sight_past terms (busy at flow (request_body given size)) later →
+    IsPrefixOf (seen_of view (shut_stray at.parked seen ++ [])) (seen_of view (owed_on onward terms (pass terms (busy at flow (request_body given size)) later) past rest))
+body_grows true onward goes terms view at flow given size seen later past rest is hears same =
+    nothing_grows view (shut_stray at.parked seen ++ []) _ (ap (λ l. l ++ []) (silent_strays at.parked seen later hears (silent_nothing later.server later.shut is).empty))
+body_grows false onward goes terms view at flow given size seen later past rest is hears same =
+    let stage : Stage = busy at flow (request_body given size) in
+    let to : Stage = begin_up terms stage later in
+    let left : Sight = sight_begun stage later in
+    let on = strays_on onward goes terms at to left (body_rests terms.place at flow given size later is) in
+    let bytes : past.server ≡ later.server = ap (λ s. s.server) (same ∙ on.past) ∙ (begin_uses stage later).server in
+    let stray : shut_stray at.parked past ≡ shut_stray at.parked later = stray_by at.parked past later bytes in
+    let owes : owed_on onward terms (pass terms stage later) past rest ≡ (shut_stray at.parked later ++ []) ++ rest =
+    ap (λ l. l ++ (so_far terms (onward (passes_from terms to left).stage) past ++ rest)) on.owed
+    ∙ (ap (λ l. l ++ rest) (on.so_far past) ∙ ap (λ l. (l ++ []) ++ rest) stray) in
+    subst (λ l. IsPrefixOf (seen_of view (shut_stray at.parked seen ++ [])) (seen_of view l)) (sym owes) (stray_grows view at.parked seen later rest hears)
+  where
+    stray_by : (parked : Option Parked) (past later : Sight) → past.server ≡ later.server → shut_stray parked past ≡ shut_stray parked later
+    stray_by None past later is = refl
+    stray_by (Some parked) past later is = ap (λ l. shut_by_byte parked.server l) is
+
+-- where it does not pass
+stays_grow : (onward : Stage → Stage) (terms : Terms) (view : View) (at : At) (stage : Stage) (seen later past : Sight) (rest : List Command) →
+    ((side : ℕ) → side_parked at.parked ≡ Some side → HearsOn seen.shut seen.server later.shut later.server) → past ≡ later →
+    so_far terms (onward stage) later ≡ shut_stray at.parked later ++ [] →
+    IsPrefixOf (seen_of view (shut_stray at.parked seen ++ [])) (seen_of view (owed_on onward terms (goes_to stage) past rest))
+stays_grow onward terms view at stage seen later past rest hears same is =
+    subst (λ l. IsPrefixOf (seen_of view (shut_stray at.parked seen ++ [])) (seen_of view l))
+    (ap (λ l. l ++ rest) (sym is) ∙ ap (λ s. so_far terms (onward stage) s ++ rest) (sym same)) (stray_grows view at.parked seen later rest hears)
+
 -- ---- one event more
 
 pub doing_grows : (onward : Stage → Stage) → IsOnward onward → (terms : Terms) (view : View) (at : At) (flow : Flow) (doing : Doing) (seen later past : Sight) (rest : List Command) →
     ((side : ℕ) → side_in at doing ≡ Some side → HearsOn seen.shut seen.server later.shut later.server) →
     past ≡ sight_past terms (busy at flow doing) later → IsPrefixOf seen.client later.client → later.told ≡ seen.told →
     IsPrefixOf (seen_of view (so_far terms (busy at flow doing) seen)) (seen_of view (owed_on onward terms (pass terms (busy at flow doing) later) past rest))
-doing_grows onward goes terms view at flow (request_body given size) seen later past rest hears same client told = (_, refl)
-doing_grows onward goes terms view at flow (connection how) seen later past rest hears same client told = (_, refl)
+doing_grows onward goes terms view at flow (request_body given size) seen later past rest hears same client told =
+    body_grows (is_silent later.server later.shut) onward goes terms view at flow given size seen later past rest refl hears same
+doing_grows onward goes terms view at flow (connection how) seen later past rest hears same client told =
+    stays_grow onward terms view at (busy at flow (connection how)) seen later past rest hears same (ap (λ s. so_far terms s later) (busy_onward onward goes at flow (connection how)))
 doing_grows onward goes terms view at flow (response_head side how) seen later past rest hears same client told =
     let heads : List ReadResponse = (answers_in flow.request seen).interim in
     let longer : List ReadResponse = (answers_in flow.request later).interim in
@@ -579,8 +709,10 @@ doing_grows onward goes terms view at flow (coming_down side how) seen later pas
     rw first.1 (both_grow view terms.place flow side how seen later (sends_coming flow seen) (commands.Send Client (coming_text flow later) ∷ first.0) client told (λ server. refl)
     (sends_grow view (coming_text flow seen) (coming_text flow later) first.0 (coming_text_grows flow seen later (hears side refl))))
 doing_grows onward goes terms view at flow (upgraded side) seen later past rest hears same client told = (_, refl)
-doing_grows onward goes terms view at flow given_head seen later past rest hears same client told = (_, refl)
-doing_grows onward goes terms view at flow given_body seen later past rest hears same client told = (_, refl)
+doing_grows onward goes terms view at flow given_head seen later past rest hears same client told =
+    stays_grow onward terms view at (busy at flow given_head) seen later past rest hears same (ap (λ s. so_far terms s later) (busy_onward onward goes at flow given_head))
+doing_grows onward goes terms view at flow given_body seen later past rest hears same client told =
+    stays_grow onward terms view at (busy at flow given_body) seen later past rest hears same (ap (λ s. so_far terms s later) (busy_onward onward goes at flow given_body))
 
 abbrev pub placed : Stage → Since → ℕ → UsedBytes → ℕ → Standing
 placed stage since opened used told = record { stage = stage; since = since; opened = opened; used = used; told = told }
@@ -589,11 +721,26 @@ hears_at : (side : Option ℕ) (number opened used : ℕ) (prefix : List (Timed 
     HearsOn (shut_over side opened prefix) (drop used (bytes_over side opened prefix)) (shut_over side opened (prefix ++ e ∷ [])) (drop used (bytes_over side opened (prefix ++ e ∷ [])))
 hears_at side number opened used prefix e open_client is = rw is (hears_on number opened used prefix e open_client)
 
+-- where no flow stands
+idle_strays : (onward : Stage → Stage) → IsOnward onward → (terms : Terms) (at : At) (seen : Sight) → so_far terms (onward (idle at)) seen ≡ shut_stray at.parked seen ++ []
+idle_strays onward (is_alone is) terms at seen = ap (λ f. so_far terms (f (idle at)) seen) is
+idle_strays onward (is_sequence is) terms at seen = ap (λ f. so_far terms (f (idle at)) seen) is
+
+next_strays : (onward : Stage → Stage) → IsOnward onward → (terms : Terms) (at : At) (seen : Sight) → so_far terms (onward (next at)) seen ≡ shut_stray at.parked seen ++ []
+next_strays onward (is_alone is) terms at seen = ap (λ f. so_far terms (f (next at)) seen) is
+next_strays onward (is_sequence is) terms at seen = ap (λ f. so_far terms (f (next at)) seen) is
+
 grows_at : (onward : Stage → Stage) → IsOnward onward → (terms : Terms) (view : View) (stage : Stage) (since : Since) (opened : ℕ) (used : UsedBytes) (told : ℕ) (prefix : List (Timed Event)) (e : Timed Event) →
     client_closed prefix ≡ false →
     IsPrefixOf (seen_of view (so_far terms stage (sight_over (placed stage since opened used told) prefix)))
     (seen_of view (owed_over (http_chain onward terms) (placed stage since opened used told) (prefix ++ e ∷ [])))
-grows_at onward goes terms view (idle at) since opened used told prefix e open_client = (_, refl)
+grows_at onward goes terms view (idle at) since opened used told prefix e open_client =
+    let place : Standing = placed (idle at) since opened used told in
+    let later : Sight = sight_over place (prefix ++ e ∷ []) in
+    let there : Standing = passed onward terms place later in
+    stays_grow onward terms view at (idle at) (sight_over place prefix) later (sight_over there (prefix ++ e ∷ [])) (found_at (http_chain onward terms) there (prefix ++ e ∷ []))
+    (λ side is. hears_at (side_parked at.parked) side opened used.server prefix e open_client is) (sight_passed onward goes terms place (prefix ++ e ∷ []))
+    (idle_strays onward goes terms at later)
 grows_at onward goes terms view (busy at flow doing) since opened used told prefix e open_client =
     let place : Standing = placed (busy at flow doing) since opened used told in
     let later : Sight = sight_over place (prefix ++ e ∷ []) in
@@ -602,7 +749,13 @@ grows_at onward goes terms view (busy at flow doing) since opened used told pref
     (found_at (http_chain onward terms) there (prefix ++ e ∷ []))
     (λ side is. hears_at (side_in at doing) side opened used.server prefix e open_client is)
     (sight_passed onward goes terms place (prefix ++ e ∷ [])) (client_on used.client prefix e open_client) refl
-grows_at onward goes terms view (next at) since opened used told prefix e open_client = (_, refl)
+grows_at onward goes terms view (next at) since opened used told prefix e open_client =
+    let place : Standing = placed (next at) since opened used told in
+    let later : Sight = sight_over place (prefix ++ e ∷ []) in
+    let there : Standing = passed onward terms place later in
+    stays_grow onward terms view at (next at) (sight_over place prefix) later (sight_over there (prefix ++ e ∷ [])) (found_at (http_chain onward terms) there (prefix ++ e ∷ []))
+    (λ side is. hears_at (side_parked at.parked) side opened used.server prefix e open_client is) (sight_passed onward goes terms place (prefix ++ e ∷ []))
+    (next_strays onward goes terms at later)
 grows_at onward goes terms view over since opened used told prefix e open_client = (_, refl)
 
 -- In each view what is owed while it waits only grows.

@@ -19,14 +19,15 @@ use Rattle.px_exchange.specs.declared.ending.Used.{Used}
 use Rattle.px_exchange.specs.declared.ending.Used.TheVariants.{NoServer, ByServer}
 use Rattle.px_exchange.specs.declared.place.Place.{Place}
 use Rattle.px_exchange.specs.declared.terms.Terms.{Terms}
-use Rattle.px_exchange.specs.Endings.{closed_message, ends_early, shut_all, shut_client, shut_server, shut_unless}
+use Rattle.px_exchange.specs.Endings.{closed_message, ends_early, shut_all, shut_client, shut_server, shut_unless, unless_kept}
 use Rattle.px_exchange.specs.Finds.{or_leaves}
 use Rattle.px_exchange.specs.Flows.{with_end}
-use Rattle.px_chain.specs.Chain.{bad_or, behind_flow, goes_to, look, look_coming, look_up, pass, pass_came, pass_kept, past_came, past_gone, sight_past, so_far}
+use Rattle.px_chain.specs.Chain.{bad_or, behind_flow, goes_to, keeps_came, look, look_coming, look_up, pass, pass_came, pass_kept, past_came, past_gone, sight_past, so_far}
+use Rattle.px_chain.specs.Keeping.{parks}
 use Rattle.px_chain.specs.Going.{is_sent, sends_going, sends_up, whole_in, with_whole}
 use Rattle.px_chain.specs.Coming.{Came, came_in, coming_text, finished_coming, goes_on_behind, streaming, streams_in, coming_by, framed_as, sends_coming}
 use Rattle.px_chain.specs.Sights.{Sight, answers_in, request_in, server_in}
-use Rattle.px_chain.specs.Stages.{At, Sent, Stage, all_sent, busy, coming_down, going_up, over, response_body, unparked}
+use Rattle.px_chain.specs.Stages.{At, Sent, Stage, all_sent, busy, coming_down, going_up, over, response_body}
 use Rattle.px_message.specs.Settle.{StreamedIsFramedAsRead}
 use Rattle.px_message.specs.declared.response.Response.{Response}
 use Rattle.px_read.specs.Laws.{head_in}
@@ -37,6 +38,7 @@ use Rattle.px_parts.proofs.ReadBackLemmas.{response-same, status_small}
 use Rattle.px_chain.specs.ReadBack.{MayPass, ReadsAs}
 use Rattle.std.proofs.Math.Seq.{drop-append_seam}
 use Rattle.px_text.specs.Prefix.{IsPrefixOf}
+use Rattle.px_chain.proofs.KeepingLaws.{nothing_strays}
 use Rattle.px_chain.proofs.ChainLaws.{HearsOn, behind_turn, coming_text_grows, leaves_by, passes_by}
 
 -- the bytes that are sent to the client
@@ -80,9 +82,10 @@ one_text text rest none =
     ∙ (append-nil (to_client (commands.Send Client text ∷ []))
     ∙ (ap bytes_in (append-nil (map byte text)) ∙ bytes_alone text)))
 
-pub behind_owes : (terms : Terms) (stays : Bool) (at : At) (seen : Sight) → so_far terms (behind_flow stays at) seen ≡ []
-behind_owes terms true at seen = refl
-behind_owes terms false at seen = refl
+-- behind a flow nothing is heard of its side
+pub behind_owes : (terms : Terms) (stays : Bool) (at : At) (seen : Sight) → seen.server ≡ [] → so_far terms (behind_flow stays at) seen ≡ []
+behind_owes terms true at seen is = ap (λ l. l ++ []) (nothing_strays at.parked seen is)
+behind_owes terms false at seen is = refl
 
 -- what its server is sent of its request
 up_none : (place : Place) (flow : Flow) (side : ℕ) (how : Sent) (seen : Sight) → to_client (sends_up place flow side how seen) ≡ []
@@ -98,14 +101,16 @@ came_owes terms at flow side how seen None =
     behind_none (sends_up terms.place flow side how seen) (sends_coming flow seen) (up_none terms.place flow side how seen) ∙ one_text (coming_text flow seen) [] refl
 came_owes terms at flow side how seen (Some came) =
     let stays : Bool = is_sent how && goes_on_behind at.flow flow.request came in
-    let closes : List Command = commands.Done (with_end flow seen.now) ∷ shut_server (server_in side seen) in
+    let kept : Bool = keeps_came at flow how seen came in
+    let used : Used = unless_kept kept (server_in side seen) in
+    let closes : List Command = commands.Done (with_end flow seen.now) ∷ shut_server used in
     let up : List Command = sends_up terms.place flow side how seen in
-    let owed : List Command = finished_coming flow seen (server_in side seen) ++ shut_unless stays NoServer seen.closed in
-    ap (λ l. to_client ((up ++ owed) ++ l)) (behind_owes terms stays (unparked at) (past_came (Some came) seen))
+    let owed : List Command = finished_coming flow seen used ++ shut_unless stays NoServer seen.closed in
+    ap (λ l. to_client ((up ++ owed) ++ l)) (behind_owes terms stays (parks kept terms.place at flow.request side) (past_came (Some came) seen) refl)
     ∙ (ap to_client (append-nil (up ++ owed))
     ∙ (behind_none up owed (up_none terms.place flow side how seen)
     ∙ one_text (coming_text flow seen) (closes ++ shut_unless stays NoServer seen.closed)
-    (both_none closes (shut_unless stays NoServer seen.closed) (server_none (server_in side seen)) (unless_none stays NoServer seen.closed))))
+    (both_none closes (shut_unless stays NoServer seen.closed) (server_none used) (unless_none stays NoServer seen.closed))))
 
 -- so is it where its request is whole or not
 coming_owes : (size : Option ℕ) (terms : Terms) (at : At) (flow : Flow) (side : ℕ) (how : Sent) (seen : Sight) →

@@ -19,6 +19,7 @@ use Rattle.px_exchange.specs.declared.terms.Terms.{Terms}
 use Rattle.px_exchange.specs.Finds.{look_head, look_judged}
 use Rattle.px_exchange.specs.Requests.{judged, judged_goal, judged_length, judged_method}
 use Rattle.px_chain.specs.Chain.{Connect, connect_by, connect_in, find}
+use Rattle.px_chain.specs.Keeping.{unspoilt_at}
 use Rattle.px_chain.specs.Sights.{Sight, request_in, server_parked}
 use Rattle.px_chain.specs.Stages.{At, idle}
 
@@ -74,7 +75,7 @@ found_by terms index bytes (bad_body fault head body) moment parked closed there
 
 -- Where nothing is owed at the end that is found, a whole CONNECT stands.
 pub connect_found : (terms : Terms) (at : At) (seen : Sight) → find terms (idle at) seen ≡ Ends [] → (connect : Connect) × (connect_in terms.place (request_in seen) ≡ Some connect)
-connect_found terms at seen is = found_by terms at.flow seen.client (request_in seen) seen.now (server_parked at.parked seen) seen.closed refl is
+connect_found terms at seen is = found_by terms at.flow seen.client (request_in seen) seen.now (server_parked (unspoilt_at at seen).parked seen) seen.closed refl is
 
 judged_connect : (terms : Terms) (index : ℕ) (head : RequestHead) (made : Judged) (used moment : ℕ) (parked : Used) (closed : Bool) (connect : Connect) → connect_by made used ≡ Some connect →
     look_judged terms index head made moment parked closed ≡ Ends []
@@ -92,4 +93,4 @@ connect_by_item terms index (bad_body fault head body) moment parked closed conn
 
 -- Where one stands, the end is found, and nothing is owed.
 pub connect_there : (terms : Terms) (at : At) (seen : Sight) (connect : Connect) → connect_in terms.place (request_in seen) ≡ Some connect → find terms (idle at) seen ≡ Ends []
-connect_there terms at seen connect is = connect_by_item terms at.flow (request_in seen) seen.now (server_parked at.parked seen) seen.closed connect is
+connect_there terms at seen connect is = connect_by_item terms at.flow (request_in seen) seen.now (server_parked (unspoilt_at at seen).parked seen) seen.closed connect is

@@ -25,11 +25,12 @@ use Rattle.px_exchange.specs.Replies.{taken_at_response_body}
 use Rattle.px_exchange.specs.Requests.{is_head}
 use Rattle.px_exchange.specs.Texts.{interim_commands, returned_text}
 use Rattle.px_parts.specs.Texts.{left_of}
-use Rattle.px_chain.specs.Chain.{bad_or, behind_flow, goes_to, going_at, gone, leaving, look, look_coming, pass, pass_came, pass_kept, past_gone, so_far, turn, turn_read_whole, turn_response, turn_returned, turn_taken_whole}
+use Rattle.px_chain.specs.Chain.{bad_or, behind_flow, goes_to, going_at, gone, keeps_came, leaving, look, look_coming, pass, pass_came, pass_kept, past_gone, so_far, turn, turn_read_whole, turn_response, turn_returned, turn_taken_whole}
+use Rattle.px_chain.specs.Keeping.{keeps_side, parks, unspoilt_at}
 use Rattle.px_chain.specs.Coming.{Came, came_in, coming_text, streaming, streams_by, streams_in}
 use Rattle.px_chain.specs.Going.{going_text, sends_going, whole_by, whole_in, with_whole}
 use Rattle.px_chain.specs.Sights.{Sight, answers_in, left_by, request_in, server_in}
-use Rattle.px_chain.specs.Stages.{At, Doing, Sent, Stage, all_sent, busy, coming_down, connection, given_body, given_head, going_up, next, over, request_body, response_body, response_head, unparked, upgraded}
+use Rattle.px_chain.specs.Stages.{At, Doing, Sent, Stage, all_sent, busy, coming_down, connection, given_body, given_head, going_up, next, over, request_body, response_body, response_head, upgraded}
 use Rattle.px_chain.proofs.ChainLaws.{passes_by}
 use Rattle.px_chain.proofs.ComingLaws.{client_join, keeps_both, streams_here, to_client}
 
@@ -91,7 +92,7 @@ same_kept side how to most is = cc
 came_stays : (place : Place) (at : At) (flow other : Flow) (side : ℕ) (how : Sent) (seen : Sight) (came : Option Came) (doing : Doing) →
     (pass_came place at flow side how seen came).stage ≡ busy at other doing → (doing ≡ coming_down side how) × (came ≡ None)
 came_stays place at flow other side how seen None doing is = (same_doing at at flow other (coming_down side how) doing is, refl)
-came_stays place at flow other side how seen (Some came) doing is = absurd (behind_stays _ (unparked at) at other doing is)
+came_stays place at flow other side how seen (Some came) doing is = absurd (behind_stays _ (parks (keeps_came at flow how seen came) place at flow.request side) at other doing is)
 
 kept_stays : (streams : Bool) (place : Place) (at : At) (flow other : Flow) (side : ℕ) (how : Sent) (most : Option ℕ) (seen : Sight) →
     (pass_kept streams place at flow side how most seen).stage ≡ busy at other (response_body side going_up most) → (streams ≡ false) × (going_up ≡ how)
@@ -199,34 +200,35 @@ good_finds terms at flow given_body seen good = refl
 
 -- ---- a response that is complete first, and is kept
 
-taken_ends : (at : At) (flow : Flow) (side : ℕ) (taken : Taken Response) (moment : ℕ) (used : Used) (closed : Bool) →
-    (turn_taken_whole at flow side going_up taken moment used closed).stage ≡ over
-taken_ends at flow side (GoesOn response) moment used closed = refl
-taken_ends at flow side (Responds response) moment used closed = refl
-taken_ends at flow side Kills moment used closed = refl
+taken_ends : (place : Place) (at : At) (flow : Flow) (side : ℕ) (keeps : Bool) (taken : Taken Response) (moment : ℕ) (used : Used) (closed : Bool) →
+    (turn_taken_whole place at flow side going_up keeps taken moment used closed).stage ≡ over
+taken_ends place at flow side keeps (GoesOn response) moment used closed = refl
+taken_ends place at flow side keeps (Responds response) moment used closed = refl
+taken_ends place at flow side keeps Kills moment used closed = refl
 
 given_ends : (given : Option Response) (takes : Response → Taken Response) (goes : Taken Response → Turn Stage Command) → ((taken : Taken Response) → (goes taken).stage ≡ over) →
     (turn_response given takes goes).stage ≡ over
 given_ends None takes goes ends = refl
 given_ends (Some response) takes goes ends = ends (takes response)
 
-whole_ends : (at : At) (flow : Flow) (side : ℕ) (answer : Timed Reply) (used : Used) (closed : Bool) → (turn_read_whole at flow side going_up answer used closed).stage ≡ over
-whole_ends at flow side answer used closed =
-    given_ends flow.response (λ response. taken_at_response_body response answer.value) (λ taken. turn_taken_whole at flow side going_up taken answer.moment used closed)
-    (λ taken. taken_ends at flow side taken answer.moment used closed)
+whole_ends : (place : Place) (at : At) (flow : Flow) (side : ℕ) (keeps : Bool) (answer : Timed Reply) (used : Used) (closed : Bool) →
+    (turn_read_whole place at flow side going_up keeps answer used closed).stage ≡ over
+whole_ends place at flow side keeps answer used closed =
+    given_ends flow.response (λ response. taken_at_response_body response answer.value) (λ taken. turn_taken_whole place at flow side going_up keeps taken answer.moment used closed)
+    (λ taken. taken_ends place at flow side keeps taken answer.moment used closed)
 
-item_ends : (at : At) (flow : Flow) (side : ℕ) (item : Item ReadResponse) (seen : Sight) (answer : Timed Reply) → (turn_returned at flow side going_up item seen answer).stage ≡ over
-item_ends at flow side missing seen answer = refl
-item_ends at flow side (part head body) seen answer = refl
-item_ends at flow side (complete head body trailers size) seen answer =
-    whole_ends at (with_returned flow body.content trailers seen.now) side answer (server_in side seen) seen.closed
-item_ends at flow side (bad_head fault) seen answer = refl
-item_ends at flow side (bad_body fault head body) seen answer = refl
+item_ends : (place : Place) (at : At) (flow : Flow) (side : ℕ) (item : Item ReadResponse) (seen : Sight) (answer : Timed Reply) → (turn_returned place at flow side going_up item seen answer).stage ≡ over
+item_ends place at flow side missing seen answer = refl
+item_ends place at flow side (part head body) seen answer = refl
+item_ends place at flow side (complete head body trailers size) seen answer =
+    whole_ends place at (with_returned flow body.content trailers seen.now) side (keeps_side flow.request seen head) answer (server_in side seen) seen.closed
+item_ends place at flow side (bad_head fault) seen answer = refl
+item_ends place at flow side (bad_body fault head body) seen answer = refl
 
 -- Whatever its last hook is answered, the conversation ends.
 pub kept_ends : (terms : Terms) (at : At) (flow : Flow) (side : ℕ) (most : Option ℕ) (seen : Sight) (answer : Timed Reply) →
     (turn terms (busy at flow (response_body side going_up most)) seen answer).stage ≡ over
-kept_ends terms at flow side most seen answer = item_ends at flow side (answers_in flow.request seen).final seen answer
+kept_ends terms at flow side most seen answer = item_ends terms.place (unspoilt_at at seen) flow side (answers_in flow.request seen).final seen answer
 
 -- Where that goes on, all of it is said, and its flow is finished without an error.
 pub kept_says : (terms : Terms) (at : At) (flow : Flow) (side : ℕ) (most : Option ℕ) (seen : Sight) (answer : Timed Reply) (head : ReadResponse) (body : Body)
@@ -240,8 +242,10 @@ pub kept_says : (terms : Terms) (at : At) (flow : Flow) (side : ℕ) (most : Opt
     }
 kept_says terms at flow side most seen answer head body trailers size asked response there given goes =
     let whole : Flow = with_returned flow body.content trailers seen.now in
-    let ends : Taken Response → Turn Stage Command = λ taken. turn_taken_whole at whole side going_up taken answer.moment (server_in side seen) seen.closed in
-    ap (λ item. turn_returned at flow side going_up item seen answer) there
+    let there_at : At = unspoilt_at at seen in
+    let keeps : Bool = keeps_side flow.request seen head in
+    let ends : Taken Response → Turn Stage Command = λ taken. turn_taken_whole terms.place there_at whole side going_up keeps taken answer.moment (server_in side seen) seen.closed in
+    ap (λ item. turn_returned terms.place there_at flow side going_up item seen answer) there
     ∙ (ap (λ it. turn_response it (λ message. taken_at_response_body message answer.value) ends) given
     ∙ ap ends goes)
 

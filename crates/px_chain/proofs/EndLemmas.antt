@@ -21,9 +21,10 @@ use Rattle.px_exchange.specs.declared.taken.Taken.TheVariants.{GoesOn, Responds,
 use Rattle.px_exchange.specs.declared.place.Place.{Place}
 use Rattle.px_exchange.specs.declared.terms.Terms.{Terms}
 use Rattle.px_chain.specs.Going.{allowed_up_by, is_sent, sends_up, whole_in}
-use Rattle.px_chain.specs.Chain.{bad_or, begin_up, behind, come_down, dial_owes_by, end_by, end_up, find, finish_by, given_at, goes_on_by, going_at, gone_by, gone_up, leaving, look, look_coming, look_up, parked_for, pass, pass_came, pass_kept, sight_begun, sight_gone, turn, turn_answer, turn_answer_head, turn_body, turn_dial, turn_head, turn_judged, turn_response, turn_returned, turn_taken_answer, turn_taken_body, turn_taken_given, turn_taken_head, turn_taken_returned, turn_taken_whole, turn_whole_answer}
+use Rattle.px_chain.specs.Chain.{bad_or, begin_up, behind, behind_unspoilt, come_down, dial_owes_by, end_by, end_up, find, find_unspoilt, finish_by, given_at, goes_on_by, going_at, gone_by, gone_up, keeps_came, leaving, look, look_coming, look_up, parked_for, pass, pass_came, pass_kept, sight_begun, sight_gone, turn, turn_answer, turn_answer_head, turn_body, turn_dial, turn_head, turn_judged, turn_response, turn_returned, turn_taken_answer, turn_taken_body, turn_taken_given, turn_taken_head, turn_taken_returned, turn_taken_whole, turn_unspoilt, turn_whole_answer}
+use Rattle.px_chain.specs.Keeping.{keeps_side, unspoilt}
 use Rattle.px_exchange.specs.Flows.{response_of, with_answer, with_body, with_returned}
-use Rattle.px_exchange.specs.Endings.{closed_message, connection_goes_on, killed_message, shut_server, shut_unless, without_response}
+use Rattle.px_exchange.specs.Endings.{closed_message, connection_goes_on, killed_message, shut_server, shut_unless, without_response, unless_kept}
 use Rattle.px_exchange.specs.EndOrder.{EndsInOrder, FoundInOrder, OnlyCloses}
 use Rattle.px_exchange.specs.Replies.{taken_at_request_body, taken_at_request_head, taken_at_response_body, taken_at_response_head}
 use Rattle.px_exchange.specs.Requests.{expects, flow_of, judged}
@@ -56,7 +57,7 @@ up_in_order all_sent seen ends found bad is = is
 up_in_order going_up seen ends found bad is = bad_in_order (request_in seen) ends found bad is
 
 module _ (terms : Terms) where
-  finds_ends : (stage : Stage) (seen : Sight) → FoundInOrder (find terms stage seen)
+  finds_ends : (stage : Stage) (seen : Sight) → FoundInOrder (find_unspoilt terms stage seen)
   finds_ends (idle at) seen = head_ends terms at.flow (request_in seen) seen.now (server_parked at.parked seen) seen.closed
   finds_ends (busy at flow (request_body given size)) seen = body_ends flow (request_in seen) seen.now (server_parked at.parked seen) seen.closed
   finds_ends (busy at flow (connection how)) seen = tt
@@ -90,7 +91,9 @@ module _ (terms : Terms) where
 
   -- An end that is found is in order.
   pub looks_in_order : (stage : Stage) (seen : Sight) → FoundInOrder (look terms stage seen)
-  looks_in_order stage seen = leaves_ends seen.closed (leaving stage seen) (find terms stage seen) (leaving_ends stage seen) (finds_ends stage seen)
+  looks_in_order stage seen =
+      let there : Stage = unspoilt stage seen in
+      leaves_ends seen.closed (leaving there seen) (find terms stage seen) (leaving_ends there seen) (finds_ends there seen)
 
   -- ---- replies
 
@@ -161,7 +164,7 @@ module _ (terms : Terms) where
   turn_answer_ends at flow side how (bad_body fault head body) seen answer = answer_head_ends at flow side how head seen answer
 
   taken_returned_ends : (at : At) (flow : Flow) (taken : Taken Response) (moment : ℕ) (used : Used) (closed : Bool) → EndsInOrder (turn_taken_returned at flow taken moment used closed).owed
-  taken_returned_ends at flow (GoesOn message) moment used closed = finished_ends flow message NoServer used (is_sent all_sent && connection_goes_on at.flow flow.request message) closed
+  taken_returned_ends at flow (GoesOn message) moment used closed = finished_ends flow message NoServer used (connection_goes_on at.flow flow.request message) closed
   taken_returned_ends at flow (Responds response) moment used closed = early_ends flow killed_message moment used closed
   taken_returned_ends at flow Kills moment used closed = early_ends flow killed_message moment used closed
 
@@ -175,51 +178,58 @@ module _ (terms : Terms) where
       response_ends flow.response (λ message. taken_at_response_body message answer.value) (λ taken. turn_taken_returned at flow taken answer.moment used closed)
       (λ taken. taken_returned_ends at flow taken answer.moment used closed)
 
-  finish_ends : (switches : Bool) (at : At) (flow : Flow) (how : Sent) (message : Response) (side : ℕ) (used : Used) (closed : Bool) →
-      EndsInOrder (finish_by switches at flow how message side used closed).owed
-  finish_ends true at flow how message side used closed = tt
-  finish_ends false at flow how message side used closed = finished_ends flow message used NoServer (is_sent how && connection_goes_on at.flow flow.request message) closed
+  finish_ends : (switches : Bool) (place : Place) (at : At) (flow : Flow) (how : Sent) (message : Response) (keeps : Bool) (side : ℕ) (used : Used) (closed : Bool) →
+      EndsInOrder (finish_by switches place at flow how message keeps side used closed).owed
+  finish_ends true place at flow how message keeps side used closed = tt
+  finish_ends false place at flow how message keeps side used closed =
+      let stays : Bool = is_sent how && connection_goes_on at.flow flow.request message in
+      finished_ends flow message (unless_kept (stays && keeps) used) NoServer stays closed
 
-  taken_whole_ends : (at : At) (flow : Flow) (side : ℕ) (how : Sent) (taken : Taken Response) (moment : ℕ) (used : Used) (closed : Bool) →
-      EndsInOrder (turn_taken_whole at flow side how taken moment used closed).owed
-  taken_whole_ends at flow side how (GoesOn message) moment used closed = finish_ends (is_sent how && message.status == 101) at flow how message side used closed
-  taken_whole_ends at flow side how (Responds response) moment used closed = early_ends flow killed_message moment used closed
-  taken_whole_ends at flow side how Kills moment used closed = early_ends flow killed_message moment used closed
+  taken_whole_ends : (place : Place) (at : At) (flow : Flow) (side : ℕ) (how : Sent) (keeps : Bool) (taken : Taken Response) (moment : ℕ) (used : Used) (closed : Bool) →
+      EndsInOrder (turn_taken_whole place at flow side how keeps taken moment used closed).owed
+  taken_whole_ends place at flow side how keeps (GoesOn message) moment used closed =
+      finish_ends (is_sent how && message.status == 101) place at flow how message keeps side used closed
+  taken_whole_ends place at flow side how keeps (Responds response) moment used closed = early_ends flow killed_message moment used closed
+  taken_whole_ends place at flow side how keeps Kills moment used closed = early_ends flow killed_message moment used closed
 
-  turn_returned_ends : (at : At) (flow : Flow) (side : ℕ) (how : Sent) (item : Item ReadResponse) (seen : Sight) (answer : Timed Reply) →
-      EndsInOrder (turn_returned at flow side how item seen answer).owed
-  turn_returned_ends at flow side how missing seen answer = tt
-  turn_returned_ends at flow side how (part head body) seen answer = tt
-  turn_returned_ends at flow side how (complete head body trailers size) seen answer =
+  turn_returned_ends : (place : Place) (at : At) (flow : Flow) (side : ℕ) (how : Sent) (item : Item ReadResponse) (seen : Sight) (answer : Timed Reply) →
+      EndsInOrder (turn_returned place at flow side how item seen answer).owed
+  turn_returned_ends place at flow side how missing seen answer = tt
+  turn_returned_ends place at flow side how (part head body) seen answer = tt
+  turn_returned_ends place at flow side how (complete head body trailers size) seen answer =
       let asked_flow : Flow = with_returned flow body.content trailers seen.now in
+      let keeps : Bool = keeps_side flow.request seen head in
       response_ends asked_flow.response (λ message. taken_at_response_body message answer.value)
-      (λ taken. turn_taken_whole at asked_flow side how taken answer.moment (server_in side seen) seen.closed)
-      (λ taken. taken_whole_ends at asked_flow side how taken answer.moment (server_in side seen) seen.closed)
-  turn_returned_ends at flow side how (bad_head fault) seen answer = tt
-  turn_returned_ends at flow side how (bad_body fault head body) seen answer = tt
+      (λ taken. turn_taken_whole place at asked_flow side how keeps taken answer.moment (server_in side seen) seen.closed)
+      (λ taken. taken_whole_ends place at asked_flow side how keeps taken answer.moment (server_in side seen) seen.closed)
+  turn_returned_ends place at flow side how (bad_head fault) seen answer = tt
+  turn_returned_ends place at flow side how (bad_body fault head body) seen answer = tt
 
   given_ends : (at : At) (flow : Flow) (taken : Taken Response) (moment : ℕ) (parked : Used) (closed : Bool) → EndsInOrder (turn_taken_given at flow taken moment parked closed).owed
   given_ends at flow (GoesOn message) moment parked closed = tt
   given_ends at flow (Responds response) moment parked closed = early_ends (without_response flow) killed_message moment parked closed
   given_ends at flow Kills moment parked closed = early_ends (without_response flow) killed_message moment parked closed
 
-  -- What a reply brings is in order.
-  pub turns_in_order : (stage : Stage) (seen : Sight) (answer : Timed Reply) → EndsInOrder (turn terms stage seen answer).owed
-  turns_in_order (idle at) seen answer = turn_head_ends at (request_in seen) seen answer
-  turns_in_order (busy at flow (request_body given size)) seen answer = turn_body_ends terms.place at flow (request_in seen) seen answer
-  turns_in_order (busy at flow (connection how)) seen answer = turn_dial_ends terms.place at flow how answer seen.closed
-  turns_in_order (busy at flow (response_head side how)) seen answer = turn_answer_ends at flow side how (answers_in flow.request seen).final seen answer
-  turns_in_order (busy at flow (response_body side how most)) seen answer = turn_returned_ends at flow side how (answers_in flow.request seen).final seen answer
-  turns_in_order (busy at flow (coming_down side how)) seen answer = tt
-  turns_in_order (busy at flow (upgraded side)) seen answer = tt
-  turns_in_order (busy at flow given_head) seen answer =
+  turned_ends : (stage : Stage) (seen : Sight) (answer : Timed Reply) → EndsInOrder (turn_unspoilt terms stage seen answer).owed
+  turned_ends (idle at) seen answer = turn_head_ends at (request_in seen) seen answer
+  turned_ends (busy at flow (request_body given size)) seen answer = turn_body_ends terms.place at flow (request_in seen) seen answer
+  turned_ends (busy at flow (connection how)) seen answer = turn_dial_ends terms.place at flow how answer seen.closed
+  turned_ends (busy at flow (response_head side how)) seen answer = turn_answer_ends at flow side how (answers_in flow.request seen).final seen answer
+  turned_ends (busy at flow (response_body side how most)) seen answer = turn_returned_ends terms.place at flow side how (answers_in flow.request seen).final seen answer
+  turned_ends (busy at flow (coming_down side how)) seen answer = tt
+  turned_ends (busy at flow (upgraded side)) seen answer = tt
+  turned_ends (busy at flow given_head) seen answer =
       let asked_flow : Flow = given_at flow seen.now in
       response_ends asked_flow.response (λ message. taken_at_response_head message answer.value)
       (λ taken. turn_taken_given at asked_flow taken answer.moment (server_parked at.parked seen) seen.closed)
       (λ taken. given_ends at asked_flow taken answer.moment (server_parked at.parked seen) seen.closed)
-  turns_in_order (busy at flow given_body) seen answer = whole_answer_ends at flow answer (server_parked at.parked seen) seen.closed
-  turns_in_order (next at) seen answer = tt
-  turns_in_order over seen answer = tt
+  turned_ends (busy at flow given_body) seen answer = whole_answer_ends at flow answer (server_parked at.parked seen) seen.closed
+  turned_ends (next at) seen answer = tt
+  turned_ends over seen answer = tt
+
+  -- What a reply brings is in order.
+  pub turns_in_order : (stage : Stage) (seen : Sight) (answer : Timed Reply) → EndsInOrder (turn terms stage seen answer).owed
+  turns_in_order stage seen answer = turned_ends (unspoilt stage seen) seen answer
 
 -- ---- where it passes
 
@@ -231,8 +241,9 @@ came_in_order : (place : Place) (at : At) (flow : Flow) (side : ℕ) (how : Sent
 came_in_order place at flow side how seen None = tt
 came_in_order place at flow side how seen (Some came) =
     let stays : Bool = is_sent how && goes_on_behind at.flow flow.request came in
-    sends_in_order place flow side how seen (finished_coming flow seen (server_in side seen) ++ shut_unless stays NoServer seen.closed)
-    (closes_both (shut_server (server_in side seen)) (shut_unless stays NoServer seen.closed) (server_closes (server_in side seen)) (unless_closes stays NoServer seen.closed))
+    let used : Used = unless_kept (keeps_came at flow how seen came) (server_in side seen) in
+    sends_in_order place flow side how seen (finished_coming flow seen used ++ shut_unless stays NoServer seen.closed)
+    (closes_both (shut_server used) (shut_unless stays NoServer seen.closed) (server_closes used) (unless_closes stays NoServer seen.closed))
 
 kept_in_order : (streams : Bool) (place : Place) (at : At) (flow : Flow) (side : ℕ) (how : Sent) (most : Option ℕ) (seen : Sight) →
     EndsInOrder (pass_kept streams place at flow side how most seen).owed
@@ -273,16 +284,19 @@ passes_in_order terms stage seen =
 
 -- ---- behind an ask
 
+behind_ends : (stage : Stage) (seen : Sight) → OnlyCloses (behind_unspoilt stage seen)
+behind_ends (idle at) seen = tt
+behind_ends (busy at flow (request_body given size)) seen = tt
+behind_ends (busy at flow (connection how)) seen = server_closes (server_parked at.parked seen)
+behind_ends (busy at flow (response_head side how)) seen = tt
+behind_ends (busy at flow (response_body side how most)) seen = tt
+behind_ends (busy at flow (coming_down side how)) seen = tt
+behind_ends (busy at flow (upgraded side)) seen = tt
+behind_ends (busy at flow given_head) seen = tt
+behind_ends (busy at flow given_body) seen = tt
+behind_ends (next at) seen = tt
+behind_ends over seen = tt
+
 -- What is owed behind an ask is closes alone.
 pub behind_closes : (stage : Stage) (seen : Sight) → OnlyCloses (behind stage seen)
-behind_closes (idle at) seen = tt
-behind_closes (busy at flow (request_body given size)) seen = tt
-behind_closes (busy at flow (connection how)) seen = server_closes (server_parked at.parked seen)
-behind_closes (busy at flow (response_head side how)) seen = tt
-behind_closes (busy at flow (response_body side how most)) seen = tt
-behind_closes (busy at flow (coming_down side how)) seen = tt
-behind_closes (busy at flow (upgraded side)) seen = tt
-behind_closes (busy at flow given_head) seen = tt
-behind_closes (busy at flow given_body) seen = tt
-behind_closes (next at) seen = tt
-behind_closes over seen = tt
+behind_closes stage seen = behind_ends (unspoilt stage seen) seen

@@ -1,5 +1,6 @@
 pub mod FrontLaws
 pub mod UsedLaws
+pub mod KeepingLaws
 pub mod SightLaws
 pub mod GoingLaws
 pub mod ChainLaws
@@ -10,11 +11,13 @@ pub mod CountedLemmas
 pub mod OnceLemmas
 pub mod NotUp
 pub mod SilentLemmas
+pub mod BelowLemmas
 pub mod TellLemmas
 pub mod SentLemmas
 pub mod EndLemmas
 pub mod ComingLaws
 pub mod UpLaws
 pub mod EarlyLaws
+pub mod InTurnLemmas
 pub mod LeftLemmas
 pub mod StreamedExamples

@@ -27,20 +27,21 @@ use Rattle.px_exchange.specs.declared.ending.Used.TheVariants.{NoServer, ByServe
 use Rattle.px_exchange.specs.declared.taken.Taken.{Taken}
 use Rattle.px_exchange.specs.declared.taken.Taken.TheVariants.{GoesOn, Responds, Kills}
 use Rattle.px_exchange.specs.declared.terms.Terms.{Terms}
-use Rattle.px_chain.specs.Chain.{bad_or, begins_going, behind, behind_flow, come_down, dial_leads, dial_owes_by, end_by, end_up, find, finish, finish_by, given_at, goes_on_by, goes_up_by, going_at, gone, gone_by, killed, leaving, look, look_coming, look_up, parked_for, pass, pass_body, pass_came, pass_given, pass_going, pass_kept, past_gone, reached, sight_begun, sight_ended, so_far, turn, turn_answer, turn_answer_head, turn_body, turn_head, turn_judged, turn_response, turn_returned, turn_taken_answer, turn_taken_body, turn_taken_given, turn_taken_head, turn_taken_returned, turn_taken_whole, turn_whole_answer}
+use Rattle.px_chain.specs.Chain.{bad_or, behind, behind_flow, behind_unspoilt, come_down, dial_leads, dial_owes_by, end_by, end_up, find, find_unspoilt, finish, finish_by, finish_given, given_at, goes_on_by, goes_up_by, going_at, gone, gone_by, keeps_came, killed, leaving, look, look_coming, look_up, parked_for, pass, pass_body, pass_came, pass_given, pass_going, pass_kept, past_gone, reached, sight_begun, sight_ended, so_far, turn, turn_answer, turn_answer_head, turn_body, turn_head, turn_judged, turn_response, turn_returned, turn_taken_answer, turn_taken_body, turn_taken_given, turn_taken_head, turn_taken_returned, turn_taken_whole, turn_whole_answer}
+use Rattle.px_chain.specs.Keeping.{keeps_side, parks, shut_by_byte, shut_stray, unspoilt, unspoilt_at}
 use Rattle.px_exchange.specs.Finds.{or_leaves, look_head, look_judged, look_body, look_answer, look_answer_head, look_returned, is_relayed}
 use Rattle.px_exchange.specs.Texts.{meets_expectation, interim_command, interim_commands}
 use Rattle.px_exchange.specs.Flows.{response_of, with_answer, with_body, with_returned}
-use Rattle.px_exchange.specs.Endings.{shut_server, shut_client, shut_all, shut_unless, without_response, killed_message, closed_message, ends_early, ends_by_fault, refuses, finished, connection_goes_on}
+use Rattle.px_exchange.specs.Endings.{shut_server, shut_client, shut_all, shut_unless, without_response, killed_message, closed_message, ends_early, ends_by_fault, refuses, finished, connection_goes_on, unless_kept}
 use Rattle.px_chain.specs.Left.{stage_left, doing_left}
 use Rattle.px_chain.proofs.Quiet.{AllQuiet, EndsNone, LooksQuiet, IsOf, any_flow, no_flow, id_in, SameFlow, IsBehind, Leads}
 use Rattle.px_exchange.specs.Replies.{taken_at_request_body, taken_at_request_head, taken_at_response_body, taken_at_response_head}
 use Rattle.px_exchange.specs.declared.place.Place.{Place}
 use Rattle.px_exchange.specs.Requests.{is_head, expects, flow_of, judged}
-use Rattle.px_chain.specs.Stages.{At, Stage, idle, busy, coming_down, next, over, request_body, connection, response_head, response_body, given_head, given_body, upgraded, place_of, unparked, Doing, Sent, all_sent, going_up}
+use Rattle.px_chain.specs.Stages.{At, Parked, Stage, idle, busy, coming_down, next, over, request_body, connection, response_head, response_body, given_head, given_body, upgraded, place_of, unparked, Doing, Sent, all_sent, going_up}
 use Rattle.px_chain.specs.Sights.{Sight, answers_in, request_in, server_in, server_parked}
 use Rattle.px_chain.specs.Coming.{Came, allowed_by, came_in, finished_coming, goes_on_behind, sends_coming, streaming, streams_in}
-use Rattle.px_chain.specs.Going.{allowed_up_by, is_sent, sending_on, sends_up, whole_in, with_whole}
+use Rattle.px_chain.specs.Going.{allowed_up_by, goes_up, is_sent, sending_on, sends_up, whole_in, with_whole}
 use Rattle.px_write.specs.Error.{fault_message}
 
 -- ---- lists
@@ -64,19 +65,28 @@ sends_up_quiet : (names : FlowId → Type 0) (place : Place) (flow : Flow) (side
 sends_up_quiet names place flow side all_sent seen = tt
 sends_up_quiet names place flow side going_up seen = (tt, tt)
 
+-- at the byte of a parked side it is closed
+byte_quiet : (names : FlowId → Type 0) (number : ℕ) (bytes : List ℕ) → AllQuiet names (shut_by_byte number bytes ++ [])
+byte_quiet names number [] = tt
+byte_quiet names number (first ∷ more) = (tt, tt)
+
+pub stray_quiet : (names : FlowId → Type 0) (parked : Option Parked) (seen : Sight) → AllQuiet names (shut_stray parked seen ++ [])
+stray_quiet names None seen = tt
+stray_quiet names (Some parked) seen = byte_quiet names parked.server seen.server
+
 pub so_far_quiet : (names : FlowId → Type 0) (terms : Terms) (stage : Stage) (seen : Sight) → AllQuiet names (so_far terms stage seen)
-so_far_quiet names terms (idle at) seen = tt
-so_far_quiet names terms (busy at flow (request_body given size)) seen = tt
-so_far_quiet names terms (busy at flow (connection how)) seen = tt
+so_far_quiet names terms (idle at) seen = stray_quiet names at.parked seen
+so_far_quiet names terms (busy at flow (request_body given size)) seen = stray_quiet names at.parked seen
+so_far_quiet names terms (busy at flow (connection how)) seen = stray_quiet names at.parked seen
 so_far_quiet names terms (busy at flow (response_head side how)) seen =
     all_quiet names (sends_up terms.place flow side how seen) _ (sends_up_quiet names terms.place flow side how seen) (interim_quiet names flow.request _)
 so_far_quiet names terms (busy at flow (response_body side how most)) seen = sends_up_quiet names terms.place flow side how seen
 so_far_quiet names terms (busy at flow (coming_down side how)) seen =
     all_quiet names (sends_up terms.place flow side how seen) (sends_coming flow seen) (sends_up_quiet names terms.place flow side how seen) (tt, tt)
 so_far_quiet names terms (busy at flow (upgraded side)) seen = tt
-so_far_quiet names terms (busy at flow given_head) seen = tt
-so_far_quiet names terms (busy at flow given_body) seen = tt
-so_far_quiet names terms (next at) seen = tt
+so_far_quiet names terms (busy at flow given_head) seen = stray_quiet names at.parked seen
+so_far_quiet names terms (busy at flow given_body) seen = stray_quiet names at.parked seen
+so_far_quiet names terms (next at) seen = stray_quiet names at.parked seen
 so_far_quiet names terms over seen = tt
 
 expectation_quiet : (names : FlowId → Type 0) (expected : Bool) → AllQuiet names (meets_expectation expected)
@@ -176,7 +186,7 @@ module _ (names : FlowId → Type 0) where
     up_quiet all_sent seen ends found quiet is = is
     up_quiet going_up seen ends found quiet is = bad_quiet (request_in seen) ends found quiet is
 
-    finds_quiet : (stage : Stage) (seen : Sight) → IsOf terms names stage → LooksQuiet names (find terms stage seen)
+    finds_quiet : (stage : Stage) (seen : Sight) → IsOf terms names stage → LooksQuiet names (find_unspoilt terms stage seen)
     finds_quiet (idle at) seen is = head_quiet at.flow (request_in seen) seen.now (server_parked at.parked seen) seen.closed is
     finds_quiet (busy at flow (request_body given size)) seen is = body_quiet flow (request_in seen) seen.now (server_parked at.parked seen) seen.closed is
     finds_quiet (busy at flow (connection how)) seen is = tt
@@ -214,8 +224,18 @@ module _ (names : FlowId → Type 0) where
     leaves_quiet closed leaves (Asks ask) quiet is = is
     leaves_quiet closed leaves (Ends owed) quiet is = is
 
+    -- it is the same flow's where the keeping of a parked side has ended
+    unspoilt_of : (stage : Stage) (seen : Sight) → IsOf terms names stage → IsOf terms names (unspoilt stage seen)
+    unspoilt_of (idle at) seen is = is
+    unspoilt_of (busy at flow doing) seen is = is
+    unspoilt_of (next at) seen is = is
+    unspoilt_of over seen is = is
+
     pub looks_quiet : (stage : Stage) (seen : Sight) → IsOf terms names stage → LooksQuiet names (look terms stage seen)
-    looks_quiet stage seen is = leaves_quiet seen.closed (leaving stage seen) (find terms stage seen) (leaving_quiet stage seen is) (finds_quiet stage seen is)
+    looks_quiet stage seen is =
+        let there : Stage = unspoilt stage seen in
+        let same = unspoilt_of stage seen is in
+        leaves_quiet seen.closed (leaving there seen) (find terms stage seen) (leaving_quiet there seen same) (finds_quiet there seen same)
 
     -- ---- turns
 
@@ -319,18 +339,33 @@ module _ (names : FlowId → Type 0) where
           let less = few refl in record { quiet = quiet; is_of = tt; ends_none = tt; behind = ((ap (λ n. n + 1) at_flow, dialled), omega arith) }
       finish_led at owed false few quiet at_flow = over_led owed quiet
 
-      finished_led : (at : At) (flow : Flow) (how : Sent) (message : Response) (used parked : Used) (closed : Bool) → SameFlow flow_now dials at → names flow.id →
-          Led (finish at flow how message used parked closed)
-      finished_led at flow how message used parked closed at_flow is =
+      finished_led : (at : At) (flow : Flow) (message : Response) (parked : Used) (closed : Bool) → SameFlow flow_now dials at → names flow.id →
+          Led (finish_given at flow message parked closed)
+      finished_led at flow message parked closed at_flow is =
+          let stays : Bool = connection_goes_on at.flow flow.request message in
+          finish_led at (finished flow message NoServer ++ shut_unless stays parked closed) stays
+          (λ on. ltb-true (at.flow + 1) 1000000 (last_true _ (nat_lt (at.flow + 1) 1000000) on))
+          (all_quiet names (finished flow message NoServer) (shut_unless stays parked closed) (finished_quiet flow message NoServer is) (unless_quiet stays parked closed)) at_flow
+
+      -- so is it behind a side of its own, which is parked there, or none is
+      own_led : (keeps : Bool) (place : Place) (at : At) (request : Request) (side : ℕ) (owed : List Command) (stays : Bool) → (stays ≡ true → at.flow + 1 < 1000000) → AllQuiet names owed →
+          SameFlow flow_now dials at → Led (record { owed = owed; stage = behind_flow stays (parks keeps place at request side) })
+      own_led true place at request side owed stays few quiet at_flow = finish_led (parks true place at request side) owed stays few quiet at_flow
+      own_led false place at request side owed stays few quiet at_flow = finish_led (parks false place at request side) owed stays few quiet at_flow
+
+      finished_own_led : (place : Place) (at : At) (flow : Flow) (how : Sent) (message : Response) (keeps : Bool) (side : ℕ) (used : Used) (closed : Bool) → SameFlow flow_now dials at → names flow.id →
+          Led (finish place at flow how message keeps side used closed)
+      finished_own_led place at flow how message keeps side used closed at_flow is =
           let goes_on : Bool = connection_goes_on at.flow flow.request message in
           let stays : Bool = is_sent how && goes_on in
-          finish_led at (finished flow message used ++ shut_unless stays parked closed) stays
+          let rest : Used = unless_kept (stays && keeps) used in
+          own_led (stays && keeps) place at flow.request side (finished flow message rest ++ shut_unless stays NoServer closed) stays
           (λ on. ltb-true (at.flow + 1) 1000000 (last_true _ (nat_lt (at.flow + 1) 1000000) (last_true (is_sent how) goes_on on)))
-          (all_quiet names (finished flow message used) (shut_unless stays parked closed) (finished_quiet flow message used is) (unless_quiet stays parked closed)) at_flow
+          (all_quiet names (finished flow message rest) (shut_unless stays NoServer closed) (finished_quiet flow message rest is) (unless_quiet stays NoServer closed)) at_flow
 
       taken_returned_led : (at : At) (flow : Flow) (taken : Taken Response) (moment : ℕ) (used : Used) (closed : Bool) → SameFlow flow_now dials at → names flow.id →
           Led (turn_taken_returned at flow taken moment used closed)
-      taken_returned_led at flow (GoesOn message) moment used closed at_flow is = finished_led at flow all_sent message NoServer used closed at_flow is
+      taken_returned_led at flow (GoesOn message) moment used closed at_flow is = finished_led at flow message used closed at_flow is
       taken_returned_led at flow (Responds response) moment used closed at_flow is = killed_led flow moment used closed is
       taken_returned_led at flow Kills moment used closed at_flow is = killed_led flow moment used closed is
 
@@ -345,28 +380,30 @@ module _ (names : FlowId → Type 0) where
           response_led flow.response (λ message. taken_at_response_body message answer.value) (λ taken. turn_taken_returned at flow taken answer.moment used closed)
           (λ taken. taken_returned_led at flow taken answer.moment used closed at_flow is)
 
-      finish_by_led : (switches : Bool) (at : At) (flow : Flow) (how : Sent) (message : Response) (side : ℕ) (used : Used) (closed : Bool) → SameFlow flow_now dials at → 0 < count → names flow.id →
-          Led (finish_by switches at flow how message side used closed)
-      finish_by_led true at flow how message side used closed at_flow more is = record { quiet = (tt, tt); is_of = is; ends_none = (tt, tt); behind = (at_flow, more) }
-      finish_by_led false at flow how message side used closed at_flow more is = finished_led (unparked at) flow how message used NoServer closed at_flow is
+      finish_by_led : (switches : Bool) (place : Place) (at : At) (flow : Flow) (how : Sent) (message : Response) (keeps : Bool) (side : ℕ) (used : Used) (closed : Bool) →
+          SameFlow flow_now dials at → 0 < count → names flow.id → Led (finish_by switches place at flow how message keeps side used closed)
+      finish_by_led true place at flow how message keeps side used closed at_flow more is = record { quiet = (tt, tt); is_of = is; ends_none = (tt, tt); behind = (at_flow, more) }
+      finish_by_led false place at flow how message keeps side used closed at_flow more is = finished_own_led place at flow how message keeps side used closed at_flow is
 
-      taken_whole_led : (at : At) (flow : Flow) (side : ℕ) (how : Sent) (taken : Taken Response) (moment : ℕ) (used : Used) (closed : Bool) → SameFlow flow_now dials at → 0 < count → names flow.id →
-          Led (turn_taken_whole at flow side how taken moment used closed)
-      taken_whole_led at flow side how (GoesOn message) moment used closed at_flow more is = finish_by_led (is_sent how && message.status == 101) at flow how message side used closed at_flow more is
-      taken_whole_led at flow side how (Responds response) moment used closed at_flow more is = killed_led flow moment used closed is
-      taken_whole_led at flow side how Kills moment used closed at_flow more is = killed_led flow moment used closed is
+      taken_whole_led : (place : Place) (at : At) (flow : Flow) (side : ℕ) (how : Sent) (keeps : Bool) (taken : Taken Response) (moment : ℕ) (used : Used) (closed : Bool) →
+          SameFlow flow_now dials at → 0 < count → names flow.id → Led (turn_taken_whole place at flow side how keeps taken moment used closed)
+      taken_whole_led place at flow side how keeps (GoesOn message) moment used closed at_flow more is =
+          finish_by_led (is_sent how && message.status == 101) place at flow how message keeps side used closed at_flow more is
+      taken_whole_led place at flow side how keeps (Responds response) moment used closed at_flow more is = killed_led flow moment used closed is
+      taken_whole_led place at flow side how keeps Kills moment used closed at_flow more is = killed_led flow moment used closed is
 
-      returned_led : (at : At) (flow : Flow) (side : ℕ) (how : Sent) (item : Item ReadResponse) (seen : Sight) (answer : Timed Reply) → SameFlow flow_now dials at → 0 < count → names flow.id →
-          Led (turn_returned at flow side how item seen answer)
-      returned_led at flow side how missing seen answer at_flow more is = over_led [] tt
-      returned_led at flow side how (part head body) seen answer at_flow more is = over_led [] tt
-      returned_led at flow side how (complete head body trailers size) seen answer at_flow more is =
+      returned_led : (place : Place) (at : At) (flow : Flow) (side : ℕ) (how : Sent) (item : Item ReadResponse) (seen : Sight) (answer : Timed Reply) →
+          SameFlow flow_now dials at → 0 < count → names flow.id → Led (turn_returned place at flow side how item seen answer)
+      returned_led place at flow side how missing seen answer at_flow more is = over_led [] tt
+      returned_led place at flow side how (part head body) seen answer at_flow more is = over_led [] tt
+      returned_led place at flow side how (complete head body trailers size) seen answer at_flow more is =
           let asked_flow : Flow = with_returned flow body.content trailers seen.now in
+          let keeps : Bool = keeps_side flow.request seen head in
           response_led asked_flow.response (λ message. taken_at_response_body message answer.value)
-          (λ taken. turn_taken_whole at asked_flow side how taken answer.moment (server_in side seen) seen.closed)
-          (λ taken. taken_whole_led at asked_flow side how taken answer.moment (server_in side seen) seen.closed at_flow more is)
-      returned_led at flow side how (bad_head fault) seen answer at_flow more is = over_led [] tt
-      returned_led at flow side how (bad_body fault head body) seen answer at_flow more is = over_led [] tt
+          (λ taken. turn_taken_whole place at asked_flow side how keeps taken answer.moment (server_in side seen) seen.closed)
+          (λ taken. taken_whole_led place at asked_flow side how keeps taken answer.moment (server_in side seen) seen.closed at_flow more is)
+      returned_led place at flow side how (bad_head fault) seen answer at_flow more is = over_led [] tt
+      returned_led place at flow side how (bad_body fault head body) seen answer at_flow more is = over_led [] tt
 
       -- a streamed response that is whole
       came_led : (at : At) (flow : Flow) (side : ℕ) (how : Sent) (seen : Sight) (came : Option Came) → SameFlow flow_now dials at → 0 < count → names flow.id →
@@ -375,11 +412,13 @@ module _ (names : FlowId → Type 0) where
       came_led at flow side how seen (Some came) at_flow more is =
           let goes_on : Bool = goes_on_behind at.flow flow.request came in
           let stays : Bool = is_sent how && goes_on in
-          let owed : List Command = finished_coming flow seen (server_in side seen) ++ shut_unless stays NoServer seen.closed in
-          finish_led (unparked at) (sends_up terms.place flow side how seen ++ owed) stays
+          let kept : Bool = keeps_came at flow how seen came in
+          let used : Used = unless_kept kept (server_in side seen) in
+          let owed : List Command = finished_coming flow seen used ++ shut_unless stays NoServer seen.closed in
+          own_led kept terms.place at flow.request side (sends_up terms.place flow side how seen ++ owed) stays
           (λ on. ltb-true (at.flow + 1) 1000000 (last_true _ (nat_lt (at.flow + 1) 1000000) (last_true (is_sent how) goes_on on)))
           (all_quiet names (sends_up terms.place flow side how seen) owed (sends_up_quiet names terms.place flow side how seen)
-          (all_quiet names (finished_coming flow seen (server_in side seen)) (shut_unless stays NoServer seen.closed) (tt, (is, server_quiet (server_in side seen)))
+          (all_quiet names (finished_coming flow seen used) (shut_unless stays NoServer seen.closed) (tt, (is, server_quiet used))
           (unless_quiet stays NoServer seen.closed))) at_flow
 
       kept_led : (streams : Bool) (at : At) (flow : Flow) (side : ℕ) (how : Sent) (most : Option ℕ) (seen : Sight) → SameFlow flow_now dials at → 1 < count → names flow.id →
@@ -439,9 +478,9 @@ module _ (names : FlowId → Type 0) where
         up_begins None place told same = each at told (connection going_up) (refl, omega arith) (omega arith) same
         up_begins (Some server) place told same = each (unparked at) (reached place told) (response_head server going_up) (refl, omega arith) (omega arith) same
 
-        going_begins : (up : Bool) (place : Place) (size : Option ℕ) → holds (pass_going up place at flow size)
-        going_begins true place size = up_begins (parked_for place flow.request at.parked) place (sending_on flow) refl
-        going_begins false place size = each at flow (request_body None size) (refl, omega arith) (omega arith) refl
+        going_begins : (up : Bool) (place : Place) (size : Option ℕ) (seen : Sight) → holds (pass_going up place at flow size seen)
+        going_begins true place size seen = up_begins (parked_for place flow.request (unspoilt_at at seen).parked) place (sending_on flow) refl
+        going_begins false place size seen = each at flow (request_body None size) (refl, omega arith) (omega arith) refl
 
         given_begins : (response : Response) (size : Option ℕ) (item : Item ReadRequest) (now : ℕ) → holds (pass_given at flow response size item now)
         given_begins response size missing now = each at flow (request_body (Some response) size) (refl, omega arith) (omega arith) refl
@@ -452,7 +491,7 @@ module _ (names : FlowId → Type 0) where
         given_begins response size (bad_body fault head body) now = each at flow (request_body (Some response) size) (refl, omega arith) (omega arith) refl
 
         body_begins : (place : Place) (given : Option Response) (size : Option ℕ) (seen : Sight) → holds (pass_body place at flow given size seen)
-        body_begins place None size seen = going_begins (begins_going place at flow size seen) place size
+        body_begins place None size seen = going_begins (goes_up size seen) place size seen
         body_begins place (Some response) size seen = given_begins response size (request_in seen) seen.now
 
       -- where a flow passes, from a stage that it began at
@@ -477,25 +516,27 @@ IsGoing stage = ⊤
 pub turn_led : (terms : Terms) (names : FlowId → Type 0) (stage : Stage) (seen : Sight) (answer : Timed Reply) → IsGoing stage → IsOf terms names stage →
     Leads terms names (place_of stage).flow (place_of stage).dials (stage_left stage) (turn terms stage seen answer)
 turn_led terms names (idle at) seen answer goes is =
-    head_led names terms at.flow at.dials 5 at (request_in seen) seen answer (refl, omega arith) (omega arith) is
+    head_led names terms at.flow at.dials 5 (unspoilt_at at seen) (request_in seen) seen answer (refl, omega arith) (omega arith) is
 turn_led terms names (busy at flow (request_body given size)) seen answer goes is =
-    body_led names terms at.flow at.dials 4 terms.place at flow (request_in seen) seen answer (refl, omega arith) (omega arith) is
+    body_led names terms at.flow at.dials 4 terms.place (unspoilt_at at seen) flow (request_in seen) seen answer (refl, omega arith) (omega arith) is
 turn_led terms names (busy at flow (connection how)) seen answer goes is =
-    dial_led names terms at.flow at.dials 3 at flow how answer.value answer.moment seen.closed (refl, omega arith) (omega arith) is
+    dial_led names terms at.flow at.dials 3 (unspoilt_at at seen) flow how answer.value answer.moment seen.closed (refl, omega arith) (omega arith) is
 turn_led terms names (busy at flow (response_head side how)) seen answer goes is =
-    answer_led names terms at.flow at.dials 2 at flow side how (answers_in flow.request seen).final seen answer (refl, omega arith) (omega arith) is
+    answer_led names terms at.flow at.dials 2 (unspoilt_at at seen) flow side how (answers_in flow.request seen).final seen answer (refl, omega arith) (omega arith) is
 turn_led terms names (busy at flow (response_body side how most)) seen answer goes is =
-    returned_led names terms at.flow at.dials 1 at flow side how (answers_in flow.request seen).final seen answer
+    returned_led names terms at.flow at.dials 1 terms.place (unspoilt_at at seen) flow side how (answers_in flow.request seen).final seen answer
     (refl, omega arith) (omega arith) is
 turn_led terms names (busy at flow (coming_down side how)) seen answer goes is = over_led names terms at.flow at.dials 0 [] tt
 turn_led terms names (busy at flow (upgraded side)) seen answer goes is = over_led names terms at.flow at.dials 0 [] tt
 turn_led terms names (busy at flow given_head) seen answer goes is =
+    let there : At = unspoilt_at at seen in
     let asked_flow : Flow = given_at flow seen.now in
     response_led names terms at.flow at.dials 2 asked_flow.response (λ message. taken_at_response_head message answer.value)
-    (λ taken. turn_taken_given at asked_flow taken answer.moment (server_parked at.parked seen) seen.closed)
-    (λ taken. given_led names terms at.flow at.dials 2 at asked_flow taken answer.moment (server_parked at.parked seen) seen.closed (refl, omega arith) (omega arith) is)
+    (λ taken. turn_taken_given there asked_flow taken answer.moment (server_parked there.parked seen) seen.closed)
+    (λ taken. given_led names terms at.flow at.dials 2 there asked_flow taken answer.moment (server_parked there.parked seen) seen.closed (refl, omega arith) (omega arith) is)
 turn_led terms names (busy at flow given_body) seen answer goes is =
-    whole_answer_led names terms at.flow at.dials 1 at flow answer (server_parked at.parked seen) seen.closed (refl, omega arith) is
+    let there : At = unspoilt_at at seen in
+    whole_answer_led names terms at.flow at.dials 1 there flow answer (server_parked there.parked seen) seen.closed (refl, omega arith) is
 turn_led terms names (next at) seen answer goes is = absurd goes
 turn_led terms names over seen answer goes is = over_led names terms 0 0 0 [] tt
 
@@ -518,18 +559,21 @@ pub finds_quiet_end : (terms : Terms) (stage : Stage) (seen : Sight) → LooksQu
 finds_quiet_end terms stage seen = looks_quiet any_flow terms stage seen (is_any terms stage)
 
 -- nor does what is owed behind an ask
+parts_quiet : (names : FlowId → Type 0) (stage : Stage) (seen : Sight) → AllQuiet names (behind_unspoilt stage seen)
+parts_quiet names (idle at) seen = tt
+parts_quiet names (busy at flow (request_body given size)) seen = tt
+parts_quiet names (busy at flow (connection how)) seen = server_quiet names (server_parked at.parked seen)
+parts_quiet names (busy at flow (response_head side how)) seen = tt
+parts_quiet names (busy at flow (response_body side how most)) seen = tt
+parts_quiet names (busy at flow (coming_down side how)) seen = tt
+parts_quiet names (busy at flow (upgraded side)) seen = tt
+parts_quiet names (busy at flow given_head) seen = tt
+parts_quiet names (busy at flow given_body) seen = tt
+parts_quiet names (next at) seen = tt
+parts_quiet names over seen = tt
+
 pub behind_quiet : (names : FlowId → Type 0) (stage : Stage) (seen : Sight) → AllQuiet names (behind stage seen)
-behind_quiet names (idle at) seen = tt
-behind_quiet names (busy at flow (request_body given size)) seen = tt
-behind_quiet names (busy at flow (connection how)) seen = server_quiet names (server_parked at.parked seen)
-behind_quiet names (busy at flow (response_head side how)) seen = tt
-behind_quiet names (busy at flow (response_body side how most)) seen = tt
-behind_quiet names (busy at flow (coming_down side how)) seen = tt
-behind_quiet names (busy at flow (upgraded side)) seen = tt
-behind_quiet names (busy at flow given_head) seen = tt
-behind_quiet names (busy at flow given_body) seen = tt
-behind_quiet names (next at) seen = tt
-behind_quiet names over seen = tt
+behind_quiet names stage seen = parts_quiet names (unspoilt stage seen) seen
 
 -- A flow that passes asks nothing at once, and leads on: to where it can ask no more than before.
 pub pass_led : (terms : Terms) (names : FlowId → Type 0) (at : At) (flow : Flow) (doing : Doing) (seen : Sight) → names flow.id →

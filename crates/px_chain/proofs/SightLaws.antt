@@ -12,7 +12,7 @@ use Rattle.px_event.specs.declared.reply.Reply.TheVariants as reply
 use Rattle.px_event.specs.declared.side.Side.{Side}
 use Rattle.px_event.specs.declared.side.Side.TheVariants.{Client, Server}
 use Rattle.px_event.specs.Chain.{Timed, Turn}
-use Rattle.px_read.specs.Items.{Item, missing, part, complete, bad_head, bad_body}
+use Rattle.px_read.specs.Items.{Answers, Item, missing, part, complete, bad_head, bad_body}
 use Rattle.px_read.specs.declared.head.RequestHead.{RequestHead as ReadRequest}
 use Rattle.px_read.specs.declared.head.ResponseHead.{ResponseHead as ReadResponse}
 use Rattle.px_exchange.specs.declared.asked.Judged.{Judged}
@@ -29,14 +29,16 @@ use Rattle.px_exchange.specs.Replies.{taken_at_request_head, taken_at_request_bo
 use Rattle.px_exchange.specs.Requests.{expects, flow_of, judged}
 use Rattle.px_event.specs.Sides.{piece_of}
 use Rattle.px_chain.specs.Behind.{dials_at, server_behind, shut_behind, sight_behind, used_behind}
-use Rattle.px_chain.specs.Chain.{IsOnward, begin_up, begins_going, behind_flow, come_down, dial_leads, end_by, end_up, finish_by, given_at, goes_on_by, goes_up_by, going_at, gone, gone_by, gone_up, is_alone, is_sequence, opened_by, parked_for, pass, pass_body, pass_came, pass_given, pass_going, pass_kept, passed, past_came, past_gone, past_kept, sequence, side_if, sight_begun, sight_come, sight_ended, sight_gone, sight_past, stands, turn, turn_answer, turn_answer_head, turn_body, turn_given_head, turn_head, turn_judged, turn_response, turn_returned, turn_taken_answer, turn_taken_body, turn_taken_given, turn_taken_head, turn_taken_returned, turn_taken_whole, turn_whole_answer, used_by_begin, used_by_came, used_by_coming, used_by_end, used_by_gone, used_by_kept, used_by_pass}
+use Rattle.px_chain.specs.Chain.{IsOnward, begin_up, behind_flow, come_down, dial_leads, end_by, end_up, finish_by, given_at, goes_on_by, goes_up_by, going_at, gone, gone_by, gone_up, is_alone, is_sequence, keeps_came, opened_by, parked_for, pass, pass_body, pass_came, pass_given, pass_going, pass_kept, passed, past_came, past_gone, past_kept, sequence, side_if, sight_begun, sight_come, sight_ended, sight_gone, sight_past, stands, turn, turn_answer, turn_answer_head, turn_body, turn_given_head, turn_head, turn_judged, turn_response, turn_returned, turn_taken_answer, turn_taken_body, turn_taken_given, turn_taken_head, turn_taken_returned, turn_taken_whole, turn_whole_answer, used_by_begin, used_by_came, used_by_coming, used_by_end, used_by_gone, used_by_kept, used_by_pass, used_if}
+use Rattle.px_chain.specs.Keeping.{is_silent, keeps_side, parks, unspoilt_at, unspoilt_by}
 use Rattle.px_chain.specs.Coming.{Came, allowed_by, came_in, goes_on_behind, streaming, streams_in}
-use Rattle.px_chain.specs.Going.{allowed_up_by, is_sent, sending_on, told_behind, whole_in}
-use Rattle.px_chain.specs.Sights.{IsWithin, Sight, Standing, UsedBytes, answers_in, bytes_over, client_left, left_by, request_in, server_in, server_left, server_parked, server_used, server_with, shut_over, shut_with, sight_over, sight_with, used_with}
-use Rattle.px_chain.specs.Stages.{At, Doing, Parked, Sent, Stage, all_sent, busy, coming_down, connection, given_body, given_head, idle, next, over, request_body, response_body, response_head, side_in, side_of, side_parked, unparked, upgraded}
+use Rattle.px_chain.specs.Going.{allowed_up_by, goes_up, is_sent, sending_on, told_behind, whole_in}
+use Rattle.px_chain.specs.Sights.{IsWithin, Sight, Standing, UsedBytes, answers_in, bytes_over, client_left, left_by, left_by_answers, request_in, server_in, server_left, server_parked, server_used, server_with, shut_over, shut_with, sight_over, sight_with, used_by_answers, used_with}
+use Rattle.px_chain.specs.Stages.{At, Doing, Parked, Sent, Stage, busy, coming_down, connection, given_body, given_head, idle, next, over, request_body, response_body, response_head, side_in, side_of, side_parked, upgraded}
 use Rattle.px_chain.specs.Streams.{bytes_of, client_closed, is_closed}
 use Rattle.px_chain.proofs.FrontLaws.{bytes_grow, bytes_more, bytes_shut, closed_more, now_here, now_more, open_behind}
-use Rattle.px_chain.proofs.UsedLaws.{client_drop, client_within, left_drop, request_within, server_drop, server_within}
+use Rattle.px_chain.proofs.KeepingLaws.{kept_nothing, same_answers}
+use Rattle.px_chain.proofs.UsedLaws.{answers_drop, client_drop, client_within, left_drop, request_within, seen_within, server_drop, server_within}
 
 abbrev make : List ℕ → Bool → List ℕ → Bool → ℕ → ℕ → Sight
 make client closed server shut told now = record { client = client; closed = closed; server = server; shut = shut; told = told; now = now }
@@ -137,12 +139,18 @@ up_side : (place : Place) (request : Request) (parked : Option Parked) (at : At)
 up_side place request None at flow is = ap side_parked is
 up_side place request (Some parked) at flow is = up_side_by (is_same_address parked.address (server_for place request)) parked place at flow is
 
-going_side : (up : Bool) (place : Place) (at : At) (flow : Flow) (size : Option ℕ) → side_of (pass_going up place at flow size) ≡ side_parked at.parked
-going_side true place at flow size = up_side place flow.request at.parked at (sending_on flow) refl
-going_side false place at flow size = refl
+-- one whose keeping has ended stays parked until a reply
+unspoilt_side : (silent : Bool) (place : Place) (request : Request) (at : At) (flow : Flow) →
+    side_of (goes_up_by (parked_for place request (unspoilt_by silent at.parked)) place at flow) ≡ side_parked at.parked
+unspoilt_side true place request at flow = up_side place request at.parked at flow refl
+unspoilt_side false place request at flow = refl
+
+going_side : (up : Bool) (place : Place) (at : At) (flow : Flow) (size : Option ℕ) (seen : Sight) → side_of (pass_going up place at flow size seen) ≡ side_parked at.parked
+going_side true place at flow size seen = unspoilt_side (is_silent seen.server seen.shut) place flow.request at (sending_on flow)
+going_side false place at flow size seen = refl
 
 body_side : (place : Place) (at : At) (flow : Flow) (given : Option Response) (size : Option ℕ) (seen : Sight) → side_of (pass_body place at flow given size seen) ≡ side_parked at.parked
-body_side place at flow None size seen = going_side (begins_going place at flow size seen) place at flow size
+body_side place at flow None size seen = going_side (goes_up size seen) place at flow size seen
 body_side place at flow (Some response) size seen = given_body_side at flow response size (request_in seen) seen.now
 
 -- where a request begins to go up the same side is open
@@ -271,24 +279,31 @@ gone_up_side terms stage seen = end_side terms (begin_up terms stage seen) (sigh
 
 -- ---- where a response comes down
 
--- Where it passes the same side of a server is open, of which nothing is used so; or none is open any more, and nothing is seen of one.
+-- Where it passes the same side of a server is open, of which nothing is used so, or the responses to a request, behind which it is kept; or none is open
+-- any more, and nothing is seen of one.
 pub data SidePassed (before : Option ℕ) (seen : Sight) (to : Stage) (used : UsedBytes → UsedBytes) (past : Sight) : Type 0 where
   same_side : side_of to ≡ before → ((had : UsedBytes) → (used had).server ≡ had.server) → past.server ≡ seen.server → past.shut ≡ seen.shut →
       SidePassed before seen to used past
+  side_kept : (request : Request) → side_of to ≡ before → ((had : UsedBytes) → (used had).server ≡ used_by_answers (answers_in request seen) had.server) →
+      past.server ≡ left_by_answers (answers_in request seen) seen.server → past.shut ≡ seen.shut → SidePassed before seen to used past
   side_closed : side_of to ≡ None → ((had : UsedBytes) → (used had).server ≡ 0) → past.server ≡ [] → past.shut ≡ false → SidePassed before seen to used past
 
--- behind its own side a flow leaves none
-none_behind : (stays : Bool) (at : At) → side_of (behind_flow stays (unparked at)) ≡ None
-none_behind true at = refl
-none_behind false at = refl
+came_side_by : (stays keeps : Bool) (place : Place) (at : At) (flow : Flow) (side : ℕ) (seen : Sight) (came : Came) → keeps_side flow.request seen came.head ≡ keeps →
+    SidePassed (Some side) seen (behind_flow stays (parks (stays && keeps) place at flow.request side)) (used_if (stays && keeps) flow seen) (past_came (Some came) seen)
+came_side_by true true place at flow side seen came is =
+    let left = kept_nothing flow.request seen came.head is in
+    side_kept flow.request refl (λ had. refl) (sym left.empty) (sym left.is_open)
+came_side_by true false place at flow side seen came is = side_closed refl (λ had. refl) refl refl
+came_side_by false keeps place at flow side seen came is = side_closed refl (λ had. refl) refl refl
 
 came_side : (place : Place) (at : At) (flow : Flow) (side : ℕ) (how : Sent) (seen : Sight) (came : Option Came) →
-    SidePassed (Some side) seen (pass_came place at flow side how seen came).stage (used_by_came came) (past_came came seen)
+    SidePassed (Some side) seen (pass_came place at flow side how seen came).stage (used_by_came at flow how seen came) (past_came came seen)
 came_side place at flow side how seen None = same_side refl (λ had. refl) refl refl
-came_side place at flow side how seen (Some came) = side_closed (none_behind (is_sent how && goes_on_behind at.flow flow.request came) at) (λ had. refl) refl refl
+came_side place at flow side how seen (Some came) =
+    came_side_by (is_sent how && goes_on_behind at.flow flow.request came) (keeps_side flow.request seen came.head) place at flow side seen came refl
 
 kept_side : (streams : Bool) (place : Place) (at : At) (flow : Flow) (side : ℕ) (how : Sent) (most : Option ℕ) (seen : Sight) →
-    SidePassed (Some side) seen (pass_kept streams place at flow side how most seen).stage (used_by_kept streams (came_in (streaming flow) seen))
+    SidePassed (Some side) seen (pass_kept streams place at flow side how most seen).stage (used_by_kept streams at (streaming flow) how seen (came_in (streaming flow) seen))
     (past_kept streams (came_in (streaming flow) seen) seen)
 kept_side true place at flow side how most seen = came_side place at (streaming flow) side how seen (came_in (streaming flow) seen)
 kept_side false place at flow side how most seen = same_side refl (λ had. refl) refl refl
@@ -311,6 +326,11 @@ passed_by : (before between : Option ℕ) (seen middle : Sight) (to : Stage) (fi
     SidePassed between middle to second past → SidePassed before seen to (λ had. second (first had)) past
 passed_by before between seen middle to first second past same uses (same_side is had bytes shut) =
     same_side (is ∙ same) (λ used. had (first used) ∙ uses.of_server used) (bytes ∙ uses.server) (shut ∙ uses.shut)
+passed_by before between seen middle to first second past same uses (side_kept request is had bytes shut) =
+    let answers = same_answers request seen middle uses.server uses.shut in
+    side_kept request (is ∙ same)
+    (λ used. had (first used) ∙ (ap (λ n. used_by_answers (answers_in request middle) n) (uses.of_server used) ∙ ap (λ a. used_by_answers a used.server) answers))
+    (bytes ∙ (ap (λ a. left_by_answers a middle.server) answers ∙ ap (λ b. left_by_answers (answers_in request seen) b) uses.server)) (shut ∙ uses.shut)
 passed_by before between seen middle to first second past same uses (side_closed is had bytes shut) = side_closed is (λ used. had (first used)) bytes shut
 
 pub side_passed : (terms : Terms) (stage : Stage) (seen : Sight) →
@@ -322,22 +342,27 @@ side_passed terms stage seen =
     (gone_up_side terms stage seen) (up_uses terms stage seen) (come_side terms there left)
 
 -- nothing of the client is used behind a request
-came_client : (came : Option Came) (seen : Sight) (used : UsedBytes) → ((used_by_came came used).client ≡ used.client) × ((past_came came seen).client ≡ seen.client)
-came_client None seen used = (refl, refl)
-came_client (Some came) seen used = (refl, refl)
+if_client : (keeps : Bool) (flow : Flow) (seen : Sight) (used : UsedBytes) → (used_if keeps flow seen used).client ≡ used.client
+if_client true flow seen used = refl
+if_client false flow seen used = refl
 
-kept_client : (streams : Bool) (came : Option Came) (seen : Sight) (used : UsedBytes) →
-    ((used_by_kept streams came used).client ≡ used.client) × ((past_kept streams came seen).client ≡ seen.client)
-kept_client true came seen used = came_client came seen used
-kept_client false came seen used = (refl, refl)
+came_client : (at : At) (flow : Flow) (how : Sent) (came : Option Came) (seen : Sight) (used : UsedBytes) →
+    ((used_by_came at flow how seen came used).client ≡ used.client) × ((past_came came seen).client ≡ seen.client)
+came_client at flow how None seen used = (refl, refl)
+came_client at flow how (Some came) seen used = (if_client (keeps_came at flow how seen came) flow seen used, refl)
+
+kept_client : (streams : Bool) (at : At) (flow : Flow) (how : Sent) (came : Option Came) (seen : Sight) (used : UsedBytes) →
+    ((used_by_kept streams at flow how seen came used).client ≡ used.client) × ((past_kept streams came seen).client ≡ seen.client)
+kept_client true at flow how came seen used = came_client at flow how came seen used
+kept_client false at flow how came seen used = (refl, refl)
 
 come_client : (stage : Stage) (seen : Sight) (used : UsedBytes) → ((used_by_coming stage seen used).client ≡ used.client) × ((sight_come stage seen).client ≡ seen.client)
 come_client (idle at) seen used = (refl, refl)
 come_client (busy at flow (request_body given size)) seen used = (refl, refl)
 come_client (busy at flow (connection how)) seen used = (refl, refl)
 come_client (busy at flow (response_head side how)) seen used = (refl, refl)
-come_client (busy at flow (response_body side how most)) seen used = kept_client (streams_in flow most seen) (came_in (streaming flow) seen) seen used
-come_client (busy at flow (coming_down side how)) seen used = came_client (came_in flow seen) seen used
+come_client (busy at flow (response_body side how most)) seen used = kept_client (streams_in flow most seen) at (streaming flow) how (came_in (streaming flow) seen) seen used
+come_client (busy at flow (coming_down side how)) seen used = came_client at flow how (came_in flow seen) seen used
 come_client (busy at flow (upgraded side)) seen used = (refl, refl)
 come_client (busy at flow given_head) seen used = (refl, refl)
 come_client (busy at flow given_body) seen used = (refl, refl)
@@ -404,6 +429,20 @@ side_left place prefix side to used past (same_side is had bytes shut) at =
       shut = ap (λ s. shut_over s place.opened prefix) same ∙ sym shut;
       within = λ fits. subst (λ n. n ≤ length (bytes_over side place.opened prefix)) (sym (had place.used))
           (subst (λ s. place.used.server ≤ length (bytes_over s place.opened prefix)) (sym same) fits);
+    }
+side_left place prefix side to used past (side_kept request is had bytes shut) at =
+    let same : side ≡ side_of place.stage = at ∙ is in
+    let seen : Sight = sight_over place prefix in
+    let answers : Answers = answers_in request seen in
+    let come : List ℕ = bytes_over (side_of place.stage) place.opened prefix in
+    record {
+      bytes = ap (λ n. drop n (bytes_over side place.opened prefix)) (had place.used)
+          ∙ (ap (λ s. drop (used_by_answers answers place.used.server) (bytes_over s place.opened prefix)) same
+          ∙ (sym (answers_drop answers seen.server place.used.server come refl) ∙ sym bytes));
+      shut = ap (λ s. shut_over s place.opened prefix) same ∙ sym shut;
+      within = λ fits. subst (λ n. n ≤ length (bytes_over side place.opened prefix)) (sym (had place.used))
+          (subst (λ s. used_by_answers answers place.used.server ≤ length (bytes_over s place.opened prefix)) (sym same)
+          (seen_within request seen place.used.server come refl fits));
     }
 side_left place prefix side to used past (side_closed is had bytes shut) at =
     let same : side ≡ None = at ∙ is in
@@ -620,7 +659,7 @@ behind_side false at = left refl
 
 taken_returned_side : (at : At) (flow : Flow) (taken : Taken Response) (moment : ℕ) (parked : Used) (closed : Bool) →
     IsKept (side_parked at.parked) (side_of (turn_taken_returned at flow taken moment parked closed).stage)
-taken_returned_side at flow (GoesOn response) moment parked closed = behind_side (is_sent all_sent && connection_goes_on at.flow flow.request response) at
+taken_returned_side at flow (GoesOn response) moment parked closed = behind_side (connection_goes_on at.flow flow.request response) at
 taken_returned_side at flow (Responds response) moment parked closed = left refl
 taken_returned_side at flow Kills moment parked closed = left refl
 
@@ -636,31 +675,41 @@ whole_side at flow answer parked closed =
     (λ taken. turn_taken_returned at flow taken answer.moment parked closed)
     (λ taken. taken_returned_side at flow taken answer.moment parked closed)
 
-finish_side : (switches : Bool) (at : At) (flow : Flow) (how : Sent) (response : Response) (side : ℕ) (used : Used) (closed : Bool) →
-    IsKept (Some side) (side_of (finish_by switches at flow how response side used closed).stage)
-finish_side true at flow how response side used closed = kept refl
-finish_side false at flow how response side used closed = left (none_behind (is_sent how && connection_goes_on at.flow flow.request response) at)
+-- behind its own side a flow leaves that, or none
+behind_own : (stays keeps : Bool) (place : Place) (at : At) (request : Request) (side : ℕ) →
+    IsKept (Some side) (side_of (behind_flow stays (parks (stays && keeps) place at request side)))
+behind_own true true place at request side = kept refl
+behind_own true false place at request side = left refl
+behind_own false keeps place at request side = left refl
 
-taken_whole_side : (at : At) (flow : Flow) (side : ℕ) (how : Sent) (taken : Taken Response) (moment : ℕ) (used : Used) (closed : Bool) →
-    IsKept (Some side) (side_of (turn_taken_whole at flow side how taken moment used closed).stage)
-taken_whole_side at flow side how (GoesOn response) moment used closed = finish_side (is_sent how && response.status == 101) at flow how response side used closed
-taken_whole_side at flow side how (Responds response) moment used closed = left refl
-taken_whole_side at flow side how Kills moment used closed = left refl
+finish_side : (switches : Bool) (place : Place) (at : At) (flow : Flow) (how : Sent) (response : Response) (keeps : Bool) (side : ℕ) (used : Used) (closed : Bool) →
+    IsKept (Some side) (side_of (finish_by switches place at flow how response keeps side used closed).stage)
+finish_side true place at flow how response keeps side used closed = kept refl
+finish_side false place at flow how response keeps side used closed =
+    behind_own (is_sent how && connection_goes_on at.flow flow.request response) keeps place at flow.request side
 
-read_whole_by : (there : Option Response) (at : At) (flow : Flow) (side : ℕ) (how : Sent) (answer : Timed Reply) (used : Used) (closed : Bool) →
-    IsKept (Some side) (side_of (turn_response there (λ response. taken_at_response_body response answer.value) (λ taken. turn_taken_whole at flow side how taken answer.moment used closed)).stage)
-read_whole_by None at flow side how answer used closed = left refl
-read_whole_by (Some response) at flow side how answer used closed = taken_whole_side at flow side how (taken_at_response_body response answer.value) answer.moment used closed
+taken_whole_side : (place : Place) (at : At) (flow : Flow) (side : ℕ) (how : Sent) (keeps : Bool) (taken : Taken Response) (moment : ℕ) (used : Used) (closed : Bool) →
+    IsKept (Some side) (side_of (turn_taken_whole place at flow side how keeps taken moment used closed).stage)
+taken_whole_side place at flow side how keeps (GoesOn response) moment used closed =
+    finish_side (is_sent how && response.status == 101) place at flow how response keeps side used closed
+taken_whole_side place at flow side how keeps (Responds response) moment used closed = left refl
+taken_whole_side place at flow side how keeps Kills moment used closed = left refl
 
-returned_side : (at : At) (flow : Flow) (side : ℕ) (how : Sent) (item : Item ReadResponse) (seen : Sight) (answer : Timed Reply) →
-    IsKept (Some side) (side_of (turn_returned at flow side how item seen answer).stage)
-returned_side at flow side how missing seen answer = left refl
-returned_side at flow side how (part head body) seen answer = left refl
-returned_side at flow side how (complete head body trailers size) seen answer =
+read_whole_by : (there : Option Response) (place : Place) (at : At) (flow : Flow) (side : ℕ) (how : Sent) (keeps : Bool) (answer : Timed Reply) (used : Used) (closed : Bool) →
+    IsKept (Some side) (side_of (turn_response there (λ response. taken_at_response_body response answer.value) (λ taken. turn_taken_whole place at flow side how keeps taken answer.moment used closed)).stage)
+read_whole_by None place at flow side how keeps answer used closed = left refl
+read_whole_by (Some response) place at flow side how keeps answer used closed =
+    taken_whole_side place at flow side how keeps (taken_at_response_body response answer.value) answer.moment used closed
+
+returned_side : (place : Place) (at : At) (flow : Flow) (side : ℕ) (how : Sent) (item : Item ReadResponse) (seen : Sight) (answer : Timed Reply) →
+    IsKept (Some side) (side_of (turn_returned place at flow side how item seen answer).stage)
+returned_side place at flow side how missing seen answer = left refl
+returned_side place at flow side how (part head body) seen answer = left refl
+returned_side place at flow side how (complete head body trailers size) seen answer =
     let whole : Flow = with_returned flow body.content trailers seen.now in
-    read_whole_by whole.response at whole side how answer (server_in side seen) seen.closed
-returned_side at flow side how (bad_head fault) seen answer = left refl
-returned_side at flow side how (bad_body fault head body) seen answer = left refl
+    read_whole_by whole.response place at whole side how (keeps_side flow.request seen head) answer (server_in side seen) seen.closed
+returned_side place at flow side how (bad_head fault) seen answer = left refl
+returned_side place at flow side how (bad_body fault head body) seen answer = left refl
 
 taken_given_side : (at : At) (flow : Flow) (taken : Taken Response) (moment : ℕ) (parked : Used) (closed : Bool) →
     IsKept (side_parked at.parked) (side_of (turn_taken_given at flow taken moment parked closed).stage)
@@ -679,33 +728,49 @@ kept_from : (from : Stage) (before later : Option ℕ) → dials_at from ≡ fal
 kept_from from before later dials is (kept same) = same_server dials (same ∙ sym is)
 kept_from from before later dials is (left none) = no_side none
 
-dial_side : (place : Place) (at : At) (flow : Flow) (how : Sent) (answer : Reply) → IsSideFrom (busy at flow (connection how)) (side_of (dial_leads place at flow how answer))
-dial_side place at flow how reply.Dialled = is_new at flow how refl refl
-dial_side place at flow how (reply.Refused fault) = no_side refl
-dial_side place at flow how (reply.Go given stream) = no_side refl
-dial_side place at flow how (reply.Respond response) = no_side refl
-dial_side place at flow how reply.Kill = no_side refl
-dial_side place at flow how reply.Discard = no_side refl
+dial_side : (place : Place) (at : At) (parked : Option Parked) (flow : Flow) (how : Sent) (answer : Reply) →
+    IsSideFrom (busy at flow (connection how)) (side_of (dial_leads place (record at { parked = parked }) flow how answer))
+dial_side place at parked flow how reply.Dialled = is_new at flow how refl refl
+dial_side place at parked flow how (reply.Refused fault) = no_side refl
+dial_side place at parked flow how (reply.Go given stream) = no_side refl
+dial_side place at parked flow how (reply.Respond response) = no_side refl
+dial_side place at parked flow how reply.Kill = no_side refl
+dial_side place at parked flow how reply.Discard = no_side refl
+
+-- a parked side whose keeping has ended is kept no more
+spoilt_kept : (silent : Bool) (parked : Option Parked) (later : Option ℕ) → IsKept (side_parked (unspoilt_by silent parked)) later → IsKept (side_parked parked) later
+spoilt_kept true parked later is = is
+spoilt_kept false parked later (kept is) = left is
+spoilt_kept false parked later (left is) = left is
+
+unspoilt_from : (from : Stage) (at : At) (seen : Sight) (later : Option ℕ) → dials_at from ≡ false → side_of from ≡ side_parked at.parked →
+    IsKept (side_parked (unspoilt_at at seen).parked) later → IsSideFrom from later
+unspoilt_from from at seen later dials is was =
+    kept_from from (side_parked at.parked) later dials is (spoilt_kept (is_silent seen.server seen.shut) at.parked later was)
 
 -- Where a reply leads, the server's side is none, a new one, or that of before.
 pub side_turned : (terms : Terms) (stage : Stage) (seen : Sight) (answer : Timed Reply) → IsSideFrom stage (side_of (turn terms stage seen answer).stage)
 side_turned terms (idle at) seen answer =
-    kept_from (idle at) (side_parked at.parked) _ refl refl (head_side terms at (request_in seen) seen answer)
+    unspoilt_from (idle at) at seen _ refl refl (head_side terms (unspoilt_at at seen) (request_in seen) seen answer)
 side_turned terms (busy at flow (request_body given size)) seen answer =
-    kept_from (busy at flow (request_body given size)) (side_parked at.parked) _ refl refl (turned_body_side terms.place at flow (request_in seen) seen answer)
-side_turned terms (busy at flow (connection how)) seen answer = dial_side terms.place at flow how answer.value
+    unspoilt_from (busy at flow (request_body given size)) at seen _ refl refl (turned_body_side terms.place (unspoilt_at at seen) flow (request_in seen) seen answer)
+side_turned terms (busy at flow (connection how)) seen answer =
+    dial_side terms.place at (unspoilt_by (is_silent seen.server seen.shut) at.parked) flow how answer.value
 side_turned terms (busy at flow (response_head side how)) seen answer =
-    kept_from (busy at flow (response_head side how)) (Some side) _ refl refl (answer_side terms at flow side how (answers_in flow.request seen).final seen answer)
+    kept_from (busy at flow (response_head side how)) (Some side) _ refl refl
+    (answer_side terms (unspoilt_at at seen) flow side how (answers_in flow.request seen).final seen answer)
 side_turned terms (busy at flow (response_body side how most)) seen answer =
     kept_from (busy at flow (response_body side how most)) (Some side) _ refl refl
-    (returned_side at flow side how (answers_in flow.request seen).final seen answer)
+    (returned_side terms.place (unspoilt_at at seen) flow side how (answers_in flow.request seen).final seen answer)
 side_turned terms (busy at flow (coming_down side how)) seen answer = no_side refl
 side_turned terms (busy at flow (upgraded side)) seen answer = no_side refl
 side_turned terms (busy at flow given_head) seen answer =
-    kept_from (busy at flow given_head) (side_parked at.parked) _ refl refl (given_side at (given_at flow seen.now) answer (server_parked at.parked seen) seen.closed)
+    let there : At = unspoilt_at at seen in
+    unspoilt_from (busy at flow given_head) at seen _ refl refl (given_side there (given_at flow seen.now) answer (server_parked there.parked seen) seen.closed)
 side_turned terms (busy at flow given_body) seen answer =
-    kept_from (busy at flow given_body) (side_parked at.parked) _ refl refl (whole_side at flow answer (server_parked at.parked seen) seen.closed)
-side_turned terms (next at) seen answer = kept_from (next at) (side_parked at.parked) _ refl refl (kept refl)
+    let there : At = unspoilt_at at seen in
+    unspoilt_from (busy at flow given_body) at seen _ refl refl (whole_side there flow answer (server_parked there.parked seen) seen.closed)
+side_turned terms (next at) seen answer = unspoilt_from (next at) at seen _ refl refl (kept refl)
 side_turned terms over seen answer = no_side refl
 
 -- and sees the same behind a reply

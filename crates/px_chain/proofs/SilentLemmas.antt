@@ -1,6 +1,6 @@
 -- What a conversation sends goes to servers that are connected: those that were dialled before its stage, of which the side that is open
 -- is one. And before the first move nobody is sent anything.
-use Rattle.std.proofs.Common.{◌≡◌, ℕ, ◌+◌, ◌≤◌, ◌<◌, Bool, true, false, cond, List, [], ◌∷◌, ◌++◌, Option, Some, None, refl, ap, ◌∙◌, arith}
+use Rattle.std.proofs.Common.{◌≡◌, ℕ, ◌+◌, ◌≤◌, ◌<◌, Bool, true, false, cond, List, [], ◌∷◌, ◌++◌, Option, Some, None, refl, arith}
 use Rattle.std.specs.Prelude.{⊤, ◌==◌, ◌&&◌, map}
 use Rattle.px_message.specs.declared.fault.Fault.{Fault}
 use Rattle.px_message.specs.declared.fault.Fault.TheVariants.{BadResponse}
@@ -10,16 +10,13 @@ use Rattle.px_message.specs.declared.response.Response.{Response}
 use Rattle.px_message.specs.declared.version.Version.{Version}
 use Rattle.px_message.specs.declared.version.Version.TheVariants as versions
 use Rattle.px_event.specs.declared.command.Command.{Command}
-use Rattle.px_event.specs.declared.event.Event.{Event}
 use Rattle.px_event.specs.declared.reply.Reply.{Reply}
 use Rattle.px_event.specs.declared.reply.Reply.TheVariants as reply
 use Rattle.px_event.specs.declared.side.Side.{Side}
 use Rattle.px_event.specs.declared.side.Side.TheVariants.{Server}
 use Rattle.px_event.specs.Chain.{Timed, Look, NotYet, Asks, Ends, Turn, found}
-use Rattle.px_event.specs.Layer.{Move}
-use Rattle.px_event.specs.Stands.{due_by}
 use Rattle.px_event.specs.View.{bytes_in, close}
-use Rattle.px_read.specs.Items.{Item, missing, part, complete, bad_head, bad_body, request_item}
+use Rattle.px_read.specs.Items.{Item, missing, part, complete, bad_head, bad_body}
 use Rattle.px_read.specs.declared.head.RequestHead.{RequestHead as ReadRequest}
 use Rattle.px_read.specs.declared.head.ResponseHead.{ResponseHead as ReadResponse}
 use Rattle.px_exchange.specs.declared.asked.Judged.{Judged}
@@ -31,22 +28,22 @@ use Rattle.px_exchange.specs.declared.taken.Taken.{Taken}
 use Rattle.px_exchange.specs.declared.taken.Taken.TheVariants.{GoesOn, Responds, Kills}
 use Rattle.px_exchange.specs.declared.terms.Terms.{Terms}
 use Rattle.px_exchange.specs.Dials.{connected_owes}
-use Rattle.px_exchange.specs.Endings.{shut_all, shut_server, shut_client, shut_unless, without_response, killed_message, closed_message, ends_early, ends_by_fault, refuses, finished, connection_goes_on}
+use Rattle.px_exchange.specs.Endings.{shut_all, shut_server, shut_client, shut_unless, without_response, killed_message, closed_message, ends_early, ends_by_fault, refuses, finished, connection_goes_on, unless_kept}
 use Rattle.px_exchange.specs.Finds.{or_leaves, look_head, look_judged, look_body, look_answer, look_answer_head, look_returned, is_relayed}
 use Rattle.px_exchange.specs.Flows.{response_of, with_answer, with_body, with_returned}
 use Rattle.px_exchange.specs.Places.{is_same_address, server_for}
 use Rattle.px_exchange.specs.Replies.{taken_at_request_body, taken_at_request_head, taken_at_response_body, taken_at_response_head}
 use Rattle.px_exchange.specs.Requests.{is_head, expects, flow_of, judged}
 use Rattle.px_exchange.specs.Texts.{meets_expectation, interim_command, interim_commands}
-use Rattle.px_chain.specs.Chain.{IsOnward, bad_or, begin, begin_up, begins_going, behind, behind_flow, come_down, dial_leads, dial_owes_by, end_by, end_up, find, finish, finish_by, given_at, goes_on_by, goes_up_by, going_at, gone, gone_by, gone_up, http_chain, is_alone, is_sequence, killed, leaving, look, look_coming, look_up, parked_for, pass, pass_came, pass_given, pass_going, pass_kept, passed, sequence, side_if, sight_begun, sight_gone, so_far, turn, turn_answer, turn_answer_head, turn_body, turn_head, turn_judged, turn_response, turn_returned, turn_taken_answer, turn_taken_body, turn_taken_given, turn_taken_head, turn_taken_returned, turn_taken_whole, turn_whole_answer}
-use Rattle.px_chain.specs.Silent.{NoAnswer, ParkedBelow, connects, connections}
-use Rattle.px_chain.specs.Sights.{Sight, Standing, answers_in, request_in, server_in, server_parked, sight_over}
+use Rattle.px_chain.specs.Chain.{bad_or, begin_up, behind, behind_flow, behind_unspoilt, come_down, dial_leads, dial_owes_by, end_by, end_up, find, find_unspoilt, finish_by, finish_given, given_at, goes_on_by, going_at, gone_by, gone_up, keeps_came, killed, leaving, look, look_coming, look_up, parked_for, pass, pass_came, pass_kept, side_if, sight_begun, sight_gone, so_far, turn, turn_answer, turn_answer_head, turn_body, turn_head, turn_judged, turn_response, turn_returned, turn_taken_answer, turn_taken_body, turn_taken_given, turn_taken_head, turn_taken_returned, turn_taken_whole, turn_whole_answer}
+use Rattle.px_chain.specs.Keeping.{is_silent, keeps_side, parks, shut_by_byte, shut_stray, unspoilt, unspoilt_at, unspoilt_by}
+use Rattle.px_chain.specs.Silent.{ParkedBelow, connects}
+use Rattle.px_chain.specs.Sights.{Sight, Standing, answers_in, request_in, server_in, server_parked}
 use Rattle.px_chain.specs.Stages.{At, Parked, Stage, busy, coming_down, connection, given_body, given_head, idle, next, over, place_of, request_body, response_body, response_head, side_in, side_of, side_parked, unparked, upgraded, Doing, Sent, all_sent, going_up}
-use Rattle.px_chain.proofs.CountedLemmas.{Counts, CountsServers, IsSilent, counted_from, counted_silent, silent_both}
+use Rattle.px_chain.proofs.CountedLemmas.{IsSilent, silent_both}
 use Rattle.px_chain.proofs.NotUp.{IsNotUp, IsNotUpBy, gone_not_up, gone_other, other_server}
-use Rattle.px_chain.proofs.SightLaws.{side_onward}
 use Rattle.px_chain.specs.Coming.{Came, allowed_by, came_in, finished_coming, goes_on_behind, sends_coming, streaming, streams_in}
-use Rattle.px_chain.specs.Going.{allowed_up_by, is_sent, sending_on, sends_going, whole_in, with_whole}
+use Rattle.px_chain.specs.Going.{allowed_up_by, is_sent, sends_going, whole_in}
 use Rattle.px_write.specs.Error.{fault_message}
 
 -- how many servers were dialled before the stage's flow dials
@@ -66,25 +63,47 @@ ServersBelow stage = SideBelow (side_of stage) (dialled stage)
 abbrev pub AreBelow : Standing → Type 0
 AreBelow place = ServersBelow place.stage
 
--- the same side is parked as before, or none
-pub data IsParkedFrom (was later : Option Parked) : Type 0 where
-  same_parked : later ≡ was → IsParkedFrom was later
+-- the side that is parked at a stage, and the one that its flow uses whose response is awaited whole
+pub record Before : Type 0 where
+  pub parked : Option Parked
+  pub own : Option ℕ
+
+abbrev pub own_in : Doing → Option ℕ
+own_in (response_body side how most) = Some side
+own_in doing = None
+
+abbrev pub own_of : Stage → Option ℕ
+own_of (busy at flow doing) = own_in doing
+own_of stage = None
+
+abbrev pub before_at : Stage → Before
+before_at stage = record { parked = (place_of stage).parked; own = own_of stage }
+
+-- The same side is parked as before, or none, or the one that the flow used which ended.
+pub data IsParkedFrom (was : Before) (later : Option Parked) : Type 0 where
+  same_parked : later ≡ was.parked → IsParkedFrom was later
   none_parked : later ≡ None → IsParkedFrom was later
+  own_parked : (own : Parked) → was.own ≡ Some own.server → later ≡ Some own → IsParkedFrom was later
 
--- the side that is parked at a stage, if it uses none
-abbrev pub parked_at : Stage → Option Parked
-parked_at stage = (place_of stage).parked
-
--- so many servers were dialled at least, and at most so many, and the side is parked that was, or none
-abbrev pub IsFew : Option Parked → ℕ → ℕ → At → Type 0
+-- so many servers were dialled at least, and at most so many, and the side is parked that was, or the flow's own, or none
+abbrev pub IsFew : Before → ℕ → ℕ → At → Type 0
 IsFew was least most at = (least ≤ at.dials) × (at.dials ≤ most) × IsParkedFrom was at.parked
 
 -- so is it at the stage, with the server whose side is open; at the end that counts for nothing
-abbrev pub IsBetween : Option Parked → ℕ → ℕ → Stage → Type 0
+abbrev pub IsBetween : Before → ℕ → ℕ → Stage → Type 0
 IsBetween was least most (idle at) = IsFew was least most at × SideBelow (side_parked at.parked) at.dials
 IsBetween was least most (busy at flow doing) = IsFew was least most at × SideBelow (side_in at doing) at.dials
 IsBetween was least most (next at) = IsFew was least most at × SideBelow (side_parked at.parked) at.dials
 IsBetween was least most over = ⊤
+
+-- a parked side whose keeping has ended is parked no more
+pub unspoilt_parked : (silent : Bool) (was : Before) (parked : Option Parked) → parked ≡ was.parked → IsParkedFrom was (unspoilt_by silent parked)
+unspoilt_parked true was parked is = same_parked is
+unspoilt_parked false was parked is = none_parked refl
+
+pub unspoilt_below : (silent : Bool) (parked : Option Parked) (dials : ℕ) → SideBelow (side_parked parked) dials → SideBelow (side_parked (unspoilt_by silent parked)) dials
+unspoilt_below true parked dials below = below
+unspoilt_below false parked dials below = tt
 
 -- the server is none that a reply can send to at this stage
 abbrev pub IsBeyond : ℕ → Reply → Stage → Type 0
@@ -189,10 +208,19 @@ module _ (server : ℕ) where
   pub waits_silent : (message : Request) (heads : List ReadResponse) → IsSilent server (interim_commands message heads)
   waits_silent message heads = interim_by message.version message heads refl
 
+  -- at the byte of a parked side it is closed
+  byte_silent : (number : ℕ) (bytes : List ℕ) → IsSilent server (shut_by_byte number bytes ++ [])
+  byte_silent number [] = refl
+  byte_silent number (first ∷ more) = close_silent (Server number) (number == server)
+
+  pub stray_silent : (parked : Option Parked) (seen : Sight) → IsSilent server (shut_stray parked seen ++ [])
+  stray_silent None seen = refl
+  stray_silent (Some parked) seen = byte_silent parked.server seen.server
+
   pub so_far_silent : (terms : Terms) (stage : Stage) (seen : Sight) → IsNotUp server stage → IsSilent server (so_far terms stage seen)
-  so_far_silent terms (idle at) seen other = refl
-  so_far_silent terms (busy at flow (request_body given size)) seen other = refl
-  so_far_silent terms (busy at flow (connection how)) seen other = refl
+  so_far_silent terms (idle at) seen other = stray_silent at.parked seen
+  so_far_silent terms (busy at flow (request_body given size)) seen other = stray_silent at.parked seen
+  so_far_silent terms (busy at flow (connection how)) seen other = stray_silent at.parked seen
   so_far_silent terms (busy at flow (response_head side all_sent)) seen other = waits_silent flow.request _
   so_far_silent terms (busy at flow (response_head side going_up)) seen other =
       silent_both server (sends_going terms.place flow side seen) (interim_commands flow.request (answers_in flow.request seen).interim) (up_silent terms.place flow side seen other)
@@ -203,41 +231,46 @@ module _ (server : ℕ) where
   so_far_silent terms (busy at flow (coming_down side going_up)) seen other =
       silent_both server (sends_going terms.place flow side seen) (sends_coming flow seen) (up_silent terms.place flow side seen other) refl
   so_far_silent terms (busy at flow (upgraded side)) seen other = refl
-  so_far_silent terms (busy at flow given_head) seen other = refl
-  so_far_silent terms (busy at flow given_body) seen other = refl
-  so_far_silent terms (next at) seen other = refl
+  so_far_silent terms (busy at flow given_head) seen other = stray_silent at.parked seen
+  so_far_silent terms (busy at flow given_body) seen other = stray_silent at.parked seen
+  so_far_silent terms (next at) seen other = stray_silent at.parked seen
   so_far_silent terms over seen other = refl
 
   -- ---- behind an ask
 
+  behind_silent_by : (stage : Stage) (seen : Sight) → IsSilent server (behind_unspoilt stage seen)
+  behind_silent_by (idle at) seen = refl
+  behind_silent_by (busy at flow (request_body given size)) seen = refl
+  behind_silent_by (busy at flow (connection how)) seen = server_silent (server_parked at.parked seen)
+  behind_silent_by (busy at flow (response_head side how)) seen = refl
+  behind_silent_by (busy at flow (response_body side how most)) seen = refl
+  behind_silent_by (busy at flow (coming_down side how)) seen = refl
+  behind_silent_by (busy at flow (upgraded side)) seen = refl
+  behind_silent_by (busy at flow given_head) seen = refl
+  behind_silent_by (busy at flow given_body) seen = refl
+  behind_silent_by (next at) seen = refl
+  behind_silent_by over seen = refl
+
   pub behind_silent : (stage : Stage) (seen : Sight) → IsSilent server (behind stage seen)
-  behind_silent (idle at) seen = refl
-  behind_silent (busy at flow (request_body given size)) seen = refl
-  behind_silent (busy at flow (connection how)) seen = server_silent (server_parked at.parked seen)
-  behind_silent (busy at flow (response_head side how)) seen = refl
-  behind_silent (busy at flow (response_body side how most)) seen = refl
-  behind_silent (busy at flow (coming_down side how)) seen = refl
-  behind_silent (busy at flow (upgraded side)) seen = refl
-  behind_silent (busy at flow given_head) seen = refl
-  behind_silent (busy at flow given_body) seen = refl
-  behind_silent (next at) seen = refl
-  behind_silent over seen = refl
+  behind_silent stage seen = behind_silent_by (unspoilt stage seen) seen
 
   -- ---- where it passes
 
   -- behind what of its request is sent
-  pub finished_down : (at : At) (flow : Flow) (side : ℕ) (seen : Sight) (stays : Bool) → IsSilent server (finished_coming flow seen (server_in side seen) ++ shut_unless stays NoServer seen.closed)
-  finished_down at flow side seen stays =
-      silent_both server (shut_server (server_in side seen)) (shut_unless stays NoServer seen.closed) (server_silent (server_in side seen)) (unless_silent stays NoServer seen.closed)
+  pub finished_down : (flow : Flow) (used : Used) (seen : Sight) (stays : Bool) → IsSilent server (finished_coming flow seen used ++ shut_unless stays NoServer seen.closed)
+  finished_down flow used seen stays =
+      silent_both server (shut_server used) (shut_unless stays NoServer seen.closed) (server_silent used) (unless_silent stays NoServer seen.closed)
 
   pub came_silent : (place : Place) (at : At) (flow : Flow) (side : ℕ) (how : Sent) (seen : Sight) (came : Option Came) → IsNotUpBy server (going_at (coming_down side how)) →
       IsSilent server (pass_came place at flow side how seen came).owed
   came_silent place at flow side how seen None other = refl
-  came_silent place at flow side all_sent seen (Some came) other = finished_down at flow side seen (is_sent all_sent && goes_on_behind at.flow flow.request came)
+  came_silent place at flow side all_sent seen (Some came) other =
+      finished_down flow (unless_kept (keeps_came at flow all_sent seen came) (server_in side seen)) seen (is_sent all_sent && goes_on_behind at.flow flow.request came)
   came_silent place at flow side going_up seen (Some came) other =
       let stays : Bool = is_sent going_up && goes_on_behind at.flow flow.request came in
-      silent_both server (sends_going place flow side seen) (finished_coming flow seen (server_in side seen) ++ shut_unless stays NoServer seen.closed) (up_silent place flow side seen other)
-      (finished_down at flow side seen stays)
+      let used : Used = unless_kept (keeps_came at flow going_up seen came) (server_in side seen) in
+      silent_both server (sends_going place flow side seen) (finished_coming flow seen used ++ shut_unless stays NoServer seen.closed) (up_silent place flow side seen other)
+      (finished_down flow used seen stays)
 
   kept_silent : (streams : Bool) (place : Place) (at : At) (flow : Flow) (side : ℕ) (how : Sent) (most : Option ℕ) (seen : Sight) → IsNotUpBy server (going_at (coming_down side how)) →
       IsSilent server (pass_kept streams place at flow side how most seen).owed
@@ -342,7 +375,7 @@ module _ (server : ℕ) where
     looks_up_silent all_sent seen ends l silent is = is
     looks_up_silent going_up seen ends l silent is = bad_silent (request_in seen) ends l silent is
 
-    finds_silent : (stage : Stage) (seen : Sight) → IsSilent server (found (find terms stage seen))
+    finds_silent : (stage : Stage) (seen : Sight) → IsSilent server (found (find_unspoilt terms stage seen))
     finds_silent (idle at) seen = head_silent at.flow (request_in seen) seen.now (server_parked at.parked seen) seen.closed
     finds_silent (busy at flow (request_body given size)) seen = body_silent flow (request_in seen) seen.now (server_parked at.parked seen) seen.closed
     finds_silent (busy at flow (connection how)) seen = refl
@@ -381,15 +414,17 @@ module _ (server : ℕ) where
     leaves_silent closed leaves (Ends owed) silent is = is
 
     pub looks_silent : (stage : Stage) (seen : Sight) → IsSilent server (found (look terms stage seen))
-    looks_silent stage seen = leaves_silent seen.closed (leaving stage seen) (find terms stage seen) (leaving_silent stage seen) (finds_silent stage seen)
+    looks_silent stage seen =
+        let there : Stage = unspoilt stage seen in
+        leaves_silent seen.closed (leaving there seen) (find terms stage seen) (leaving_silent there seen) (finds_silent there seen)
 
     -- ---- replies
 
     -- What a reply brings sends nothing to the server, and leads to where so many servers were dialled.
-    abbrev Leads : Option Parked → ℕ → ℕ → Turn Stage Command → Type 0
+    abbrev Leads : Before → ℕ → ℕ → Turn Stage Command → Type 0
     Leads was least most turned = IsSilent server turned.owed × IsBetween was least most turned.stage
 
-    module _ (was : Option Parked) (least most : ℕ) where
+    module _ (was : Before) (least most : ℕ) where
       abbrev Few : At → Type 0
       Few at = IsFew was least most at
 
@@ -478,15 +513,15 @@ module _ (server : ℕ) where
       behind_leads at owed true silent stays = (silent, stays)
       behind_leads at owed false silent stays = over_leads owed silent
 
-      finish_leads : (at : At) (flow : Flow) (how : Sent) (message : Response) (used parked : Used) (closed : Bool) → Stays at → Leads was least most (finish at flow how message used parked closed)
-      finish_leads at flow how message used parked closed stays =
-          let goes_on : Bool = is_sent how && connection_goes_on at.flow flow.request message in
-          behind_leads at (finished flow message used ++ shut_unless goes_on parked closed) goes_on
-          (silent_both server (finished flow message used) (shut_unless goes_on parked closed) (finished_silent flow message used) (unless_silent goes_on parked closed)) stays
+      finish_leads : (at : At) (flow : Flow) (message : Response) (parked : Used) (closed : Bool) → Stays at → Leads was least most (finish_given at flow message parked closed)
+      finish_leads at flow message parked closed stays =
+          let goes_on : Bool = connection_goes_on at.flow flow.request message in
+          behind_leads at (finished flow message NoServer ++ shut_unless goes_on parked closed) goes_on
+          (silent_both server (finished flow message NoServer) (shut_unless goes_on parked closed) (finished_silent flow message NoServer) (unless_silent goes_on parked closed)) stays
 
       taken_returned_leads : (at : At) (flow : Flow) (taken : Taken Response) (moment : ℕ) (parked : Used) (closed : Bool) → Stays at →
           Leads was least most (turn_taken_returned at flow taken moment parked closed)
-      taken_returned_leads at flow (GoesOn message) moment parked closed stays = finish_leads at flow all_sent message NoServer parked closed stays
+      taken_returned_leads at flow (GoesOn message) moment parked closed stays = finish_leads at flow message parked closed stays
       taken_returned_leads at flow (Responds response) moment parked closed stays = killed_leads flow moment parked closed
       taken_returned_leads at flow Kills moment parked closed stays = killed_leads flow moment parked closed
 
@@ -500,28 +535,41 @@ module _ (server : ℕ) where
           response_leads flow.response (λ message. taken_at_response_body message answer.value) (λ taken. turn_taken_returned at flow taken answer.moment used closed)
           (λ taken. taken_returned_leads at flow taken answer.moment used closed stays)
 
-      finish_by_leads : (switches : Bool) (at : At) (flow : Flow) (how : Sent) (message : Response) (side : ℕ) (used : Used) (closed : Bool) → Few at → side < at.dials →
-          Leads was least most (finish_by switches at flow how message side used closed)
-      finish_by_leads true at flow how message side used closed few below = (refl, (few, below))
-      finish_by_leads false at flow how message side used closed few below = finish_leads (unparked at) flow how message used NoServer closed (without_it at few, tt)
+      -- behind its own side a flow leaves that, or none
+      own_leads : (stays keeps : Bool) (place : Place) (at : At) (request : Request) (side : ℕ) (owed : List Command) → IsSilent server owed → Few at → side < at.dials → was.own ≡ Some side →
+          Leads was least most (record { owed = owed; stage = behind_flow stays (parks (stays && keeps) place at request side) })
+      own_leads true true place at request side owed silent few below own = (silent, ((few.0, few.1, own_parked _ own refl), below))
+      own_leads true false place at request side owed silent few below own = (silent, (without_it at few, tt))
+      own_leads false keeps place at request side owed silent few below own = over_leads owed silent
 
-      taken_whole_leads : (at : At) (flow : Flow) (side : ℕ) (how : Sent) (taken : Taken Response) (moment : ℕ) (used : Used) (closed : Bool) → Few at → side < at.dials →
-          Leads was least most (turn_taken_whole at flow side how taken moment used closed)
-      taken_whole_leads at flow side how (GoesOn message) moment used closed few below = finish_by_leads (is_sent how && message.status == 101) at flow how message side used closed few below
-      taken_whole_leads at flow side how (Responds response) moment used closed few below = killed_leads flow moment used closed
-      taken_whole_leads at flow side how Kills moment used closed few below = killed_leads flow moment used closed
+      finish_by_leads : (switches : Bool) (place : Place) (at : At) (flow : Flow) (how : Sent) (message : Response) (keeps : Bool) (side : ℕ) (used : Used) (closed : Bool) →
+          Few at → side < at.dials → was.own ≡ Some side → Leads was least most (finish_by switches place at flow how message keeps side used closed)
+      finish_by_leads true place at flow how message keeps side used closed few below own = (refl, (few, below))
+      finish_by_leads false place at flow how message keeps side used closed few below own =
+          let stays : Bool = is_sent how && connection_goes_on at.flow flow.request message in
+          let rest : Used = unless_kept (stays && keeps) used in
+          own_leads stays keeps place at flow.request side (finished flow message rest ++ shut_unless stays NoServer closed)
+          (silent_both server (finished flow message rest) (shut_unless stays NoServer closed) (finished_silent flow message rest) (unless_silent stays NoServer closed)) few below own
 
-      returned_leads : (at : At) (flow : Flow) (side : ℕ) (how : Sent) (item : Item ReadResponse) (seen : Sight) (answer : Timed Reply) → Few at → side < at.dials →
-          Leads was least most (turn_returned at flow side how item seen answer)
-      returned_leads at flow side how missing seen answer few below = over_leads [] refl
-      returned_leads at flow side how (part head body) seen answer few below = over_leads [] refl
-      returned_leads at flow side how (complete head body trailers size) seen answer few below =
+      taken_whole_leads : (place : Place) (at : At) (flow : Flow) (side : ℕ) (how : Sent) (keeps : Bool) (taken : Taken Response) (moment : ℕ) (used : Used) (closed : Bool) →
+          Few at → side < at.dials → was.own ≡ Some side → Leads was least most (turn_taken_whole place at flow side how keeps taken moment used closed)
+      taken_whole_leads place at flow side how keeps (GoesOn message) moment used closed few below own =
+          finish_by_leads (is_sent how && message.status == 101) place at flow how message keeps side used closed few below own
+      taken_whole_leads place at flow side how keeps (Responds response) moment used closed few below own = killed_leads flow moment used closed
+      taken_whole_leads place at flow side how keeps Kills moment used closed few below own = killed_leads flow moment used closed
+
+      returned_leads : (place : Place) (at : At) (flow : Flow) (side : ℕ) (how : Sent) (item : Item ReadResponse) (seen : Sight) (answer : Timed Reply) →
+          Few at → side < at.dials → was.own ≡ Some side → Leads was least most (turn_returned place at flow side how item seen answer)
+      returned_leads place at flow side how missing seen answer few below own = over_leads [] refl
+      returned_leads place at flow side how (part head body) seen answer few below own = over_leads [] refl
+      returned_leads place at flow side how (complete head body trailers size) seen answer few below own =
           let asked_flow : Flow = with_returned flow body.content trailers seen.now in
+          let keeps : Bool = keeps_side flow.request seen head in
           response_leads asked_flow.response (λ message. taken_at_response_body message answer.value)
-          (λ taken. turn_taken_whole at asked_flow side how taken answer.moment (server_in side seen) seen.closed)
-          (λ taken. taken_whole_leads at asked_flow side how taken answer.moment (server_in side seen) seen.closed few below)
-      returned_leads at flow side how (bad_head fault) seen answer few below = over_leads [] refl
-      returned_leads at flow side how (bad_body fault head body) seen answer few below = over_leads [] refl
+          (λ taken. turn_taken_whole place at asked_flow side how keeps taken answer.moment (server_in side seen) seen.closed)
+          (λ taken. taken_whole_leads place at asked_flow side how keeps taken answer.moment (server_in side seen) seen.closed few below own)
+      returned_leads place at flow side how (bad_head fault) seen answer few below own = over_leads [] refl
+      returned_leads place at flow side how (bad_body fault head body) seen answer few below own = over_leads [] refl
 
       given_leads : (at : At) (flow : Flow) (taken : Taken Response) (moment : ℕ) (parked : Used) (closed : Bool) → Stays at →
           Leads was least most (turn_taken_given at flow taken moment parked closed)
@@ -545,250 +593,51 @@ module _ (server : ℕ) where
       connected_leads at flow going_up reply.Kill moment closed before few many = over_leads [] refl
       connected_leads at flow going_up reply.Discard moment closed before few many = over_leads [] refl
 
+    -- where the keeping of a parked side has ended it counts for nothing
+    same_at : (was : Before) (at : At) (seen : Sight) (most : ℕ) → at.parked ≡ was.parked → at.dials ≤ most → IsFew was at.dials most (unspoilt_at at seen)
+    same_at was at seen most is few = (omega arith, few, unspoilt_parked (is_silent seen.server seen.shut) was at.parked is)
+
+    stays_at : (was : Before) (at : At) (seen : Sight) (most : ℕ) → at.parked ≡ was.parked → at.dials ≤ most → SideBelow (side_parked at.parked) at.dials →
+        IsFew was at.dials most (unspoilt_at at seen) × SideBelow (side_parked (unspoilt_at at seen).parked) at.dials
+    stays_at was at seen most is few below = (same_at was at seen most is few, unspoilt_below (is_silent seen.server seen.shut) at.parked at.dials below)
+
     pub turn_leads : (stage : Stage) (seen : Sight) (answer : Timed Reply) → ServersBelow stage → IsBeyond server answer.value stage →
-        Leads (parked_at stage) (dialled stage) (dialled stage + connects answer.value) (turn terms stage seen answer)
+        Leads (before_at stage) (dialled stage) (dialled stage + connects answer.value) (turn terms stage seen answer)
     turn_leads (idle at) seen answer below before =
-        head_leads at.parked at.dials (at.dials + connects answer.value) at (request_in seen) seen answer ((omega arith, omega arith, same_parked refl), below)
+        let was : Before = before_at (idle at) in
+        let most : ℕ = at.dials + connects answer.value in
+        head_leads was at.dials most (unspoilt_at at seen) (request_in seen) seen answer (stays_at was at seen most refl (omega arith) below)
     turn_leads (busy at flow (request_body given size)) seen answer below before =
-        body_leads at.parked at.dials (at.dials + connects answer.value) terms.place at flow (request_in seen) seen answer ((omega arith, omega arith, same_parked refl), below) before
+        let was : Before = before_at (busy at flow (request_body given size)) in
+        let most : ℕ = at.dials + connects answer.value in
+        body_leads was at.dials most terms.place (unspoilt_at at seen) flow (request_in seen) seen answer (stays_at was at seen most refl (omega arith) below) before
     turn_leads (busy at flow (connection how)) seen answer below before =
-        connected_leads at.parked at.dials (at.dials + connects answer.value) at flow how answer.value answer.moment seen.closed before (omega arith) (omega arith)
+        connected_leads (before_at (busy at flow (connection how))) at.dials (at.dials + connects answer.value) (unspoilt_at at seen) flow how answer.value answer.moment seen.closed before (omega arith) (omega arith)
     turn_leads (busy at flow (response_head side how)) seen answer below before =
-        answer_leads at.parked at.dials (at.dials + connects answer.value) at flow side how (answers_in flow.request seen).final seen answer (omega arith, omega arith, same_parked refl) below
-    turn_leads (busy at flow (response_body side how most)) seen answer below before =
-        returned_leads at.parked at.dials (at.dials + connects answer.value) at flow side how (answers_in flow.request seen).final seen answer
-        (omega arith, omega arith, same_parked refl) below
-    turn_leads (busy at flow (coming_down side how)) seen answer below before = over_leads at.parked at.dials (at.dials + connects answer.value) [] refl
-    turn_leads (busy at flow (upgraded side)) seen answer below before = over_leads at.parked at.dials (at.dials + connects answer.value) [] refl
+        let was : Before = before_at (busy at flow (response_head side how)) in
+        let most : ℕ = at.dials + connects answer.value in
+        answer_leads was at.dials most (unspoilt_at at seen) flow side how (answers_in flow.request seen).final seen answer (same_at was at seen most refl (omega arith)) below
+    turn_leads (busy at flow (response_body side how allowed)) seen answer below before =
+        let was : Before = before_at (busy at flow (response_body side how allowed)) in
+        let most : ℕ = at.dials + connects answer.value in
+        returned_leads was at.dials most terms.place (unspoilt_at at seen) flow side how (answers_in flow.request seen).final seen answer
+        (same_at was at seen most refl (omega arith)) below refl
+    turn_leads (busy at flow (coming_down side how)) seen answer below before =
+        over_leads (before_at (busy at flow (coming_down side how))) at.dials (at.dials + connects answer.value) [] refl
+    turn_leads (busy at flow (upgraded side)) seen answer below before = over_leads (before_at (busy at flow (upgraded side))) at.dials (at.dials + connects answer.value) [] refl
     turn_leads (busy at flow given_head) seen answer below before =
+        let was : Before = before_at (busy at flow given_head) in
+        let most : ℕ = at.dials + connects answer.value in
+        let there : At = unspoilt_at at seen in
         let asked_flow : Flow = given_at flow seen.now in
-        response_leads at.parked at.dials (at.dials + connects answer.value) asked_flow.response (λ message. taken_at_response_head message answer.value)
-        (λ taken. turn_taken_given at asked_flow taken answer.moment (server_parked at.parked seen) seen.closed)
-        (λ taken. given_leads at.parked at.dials (at.dials + connects answer.value) at asked_flow taken answer.moment (server_parked at.parked seen) seen.closed
-        ((omega arith, omega arith, same_parked refl), below))
+        response_leads was at.dials most asked_flow.response (λ message. taken_at_response_head message answer.value)
+        (λ taken. turn_taken_given there asked_flow taken answer.moment (server_parked there.parked seen) seen.closed)
+        (λ taken. given_leads was at.dials most there asked_flow taken answer.moment (server_parked there.parked seen) seen.closed (stays_at was at seen most refl (omega arith) below))
     turn_leads (busy at flow given_body) seen answer below before =
-        whole_answer_leads at.parked at.dials (at.dials + connects answer.value) at flow answer (server_parked at.parked seen) seen.closed
-        ((omega arith, omega arith, same_parked refl), below)
-    turn_leads (next at) seen answer below before = (refl, ((omega arith, omega arith, same_parked refl), below))
-    turn_leads over seen answer below before = over_leads None 0 (0 + connects answer.value) [] refl
-
--- ---- passing, and the next flow
-
--- where a conversation passes no more servers were dialled, and the one whose side is open is among them
-record PassesBelow (from to : Stage) : Type 0 where
-  few : dialled to ≤ dialled from
-  below : ServersBelow from → ServersBelow to
-
-below_both : (from between to : Stage) → PassesBelow from between → PassesBelow between to → PassesBelow from to
-below_both from between to first second =
-    let few = first.few in let fewer = second.few in
-    record { few = omega arith; below = λ is. second.below (first.below is) }
-
-still_below : (stage : Stage) → PassesBelow stage stage
-still_below stage = record { few = omega arith; below = λ is. is }
-
-up_below : (side : Option ℕ) (place : Place) (at : At) (flow from : Flow) (given : Option Response) (size : Option ℕ) → (SideBelow (side_parked at.parked) at.dials → SideBelow side at.dials) →
-    PassesBelow (busy at from (request_body given size)) (goes_up_by side place at flow)
-up_below None place at flow from given size fits = record { few = omega arith; below = λ is. is }
-up_below (Some server) place at flow from given size fits = record { few = omega arith; below = λ is. fits is }
-
-going_below : (up : Bool) (place : Place) (at : At) (flow : Flow) (size : Option ℕ) → PassesBelow (busy at flow (request_body None size)) (pass_going up place at flow size)
-going_below true place at flow size =
-    up_below (parked_for place flow.request at.parked) place at (sending_on flow) flow None size (for_below place flow.request at.parked at.dials)
-going_below false place at flow size = still_below (busy at flow (request_body None size))
-
-given_below : (at : At) (flow : Flow) (response : Response) (size : Option ℕ) (item : Item ReadRequest) (now : ℕ) →
-    PassesBelow (busy at flow (request_body (Some response) size)) (pass_given at flow response size item now)
-given_below at flow response size missing now = record { few = omega arith; below = λ is. is }
-given_below at flow response size (part head body) now = record { few = omega arith; below = λ is. is }
-given_below at flow response size (complete head body trailers used) now = record { few = omega arith; below = λ is. is }
-given_below at flow response size (bad_head fault) now = record { few = omega arith; below = λ is. is }
-given_below at flow response size (bad_body fault head body) now = record { few = omega arith; below = λ is. is }
-
--- so is it where a request begins to go up
-begins_below : (terms : Terms) (stage : Stage) (seen : Sight) → PassesBelow stage (begin_up terms stage seen)
-begins_below terms (idle at) seen = still_below (idle at)
-begins_below terms (busy at flow (request_body None size)) seen = going_below (begins_going terms.place at flow size seen) terms.place at flow size
-begins_below terms (busy at flow (request_body (Some response) size)) seen = given_below at flow response size (request_in seen) seen.now
-begins_below terms (busy at flow (connection how)) seen = still_below (busy at flow (connection how))
-begins_below terms (busy at flow (response_head side how)) seen = still_below (busy at flow (response_head side how))
-begins_below terms (busy at flow (response_body side how most)) seen = still_below (busy at flow (response_body side how most))
-begins_below terms (busy at flow (coming_down side how)) seen = still_below (busy at flow (coming_down side how))
-begins_below terms (busy at flow (upgraded side)) seen = still_below (busy at flow (upgraded side))
-begins_below terms (busy at flow given_head) seen = still_below (busy at flow given_head)
-begins_below terms (busy at flow given_body) seen = still_below (busy at flow given_body)
-begins_below terms (next at) seen = still_below (next at)
-begins_below terms over seen = still_below over
-
-gone_below : (at : At) (flow whole : Flow) (doing : Doing) → PassesBelow (busy at flow doing) (busy at whole (gone doing))
-gone_below at flow whole (request_body given size) = record { few = omega arith; below = λ is. is }
-gone_below at flow whole (connection how) = record { few = omega arith; below = λ is. is }
-gone_below at flow whole (response_head side how) = record { few = omega arith; below = λ is. is }
-gone_below at flow whole (response_body side how most) = record { few = omega arith; below = λ is. is }
-gone_below at flow whole (coming_down side how) = record { few = omega arith; below = λ is. is }
-gone_below at flow whole (upgraded side) = record { few = omega arith; below = λ is. is }
-gone_below at flow whole given_head = record { few = omega arith; below = λ is. is }
-gone_below at flow whole given_body = record { few = omega arith; below = λ is. is }
-
-ends_below_by : (g : Option ℕ) (place : Place) (at : At) (flow : Flow) (doing : Doing) (seen : Sight) → PassesBelow (busy at flow doing) (end_by g place at flow doing seen).stage
-ends_below_by None place at flow doing seen = still_below (busy at flow doing)
-ends_below_by (Some server) place at flow doing seen = gone_below at flow (with_whole flow seen.now) doing
-
--- is whole
-ends_below : (terms : Terms) (stage : Stage) (seen : Sight) → PassesBelow stage (end_up terms stage seen).stage
-ends_below terms (idle at) seen = still_below (idle at)
-ends_below terms (busy at flow doing) seen = ends_below_by (gone_by (going_at doing) (whole_in seen)) terms.place at flow doing seen
-ends_below terms (next at) seen = still_below (next at)
-ends_below terms over seen = still_below over
-
-behind_below : (stays : Bool) (at : At) (flow : Flow) (doing : Doing) → PassesBelow (busy at flow doing) (behind_flow stays (unparked at))
-behind_below true at flow doing = record { few = omega arith; below = λ is. tt }
-behind_below false at flow doing = record { few = omega arith; below = λ is. tt }
-
-came_below : (place : Place) (at : At) (flow from : Flow) (side : ℕ) (how : Sent) (seen : Sight) (came : Option Came) (doing : Doing) → (SideBelow (side_in at doing) at.dials → side < at.dials) →
-    PassesBelow (busy at from doing) (pass_came place at flow side how seen came).stage
-came_below place at flow from side how seen None doing fits = record { few = omega arith; below = λ is. fits is }
-came_below place at flow from side how seen (Some came) doing fits = behind_below (is_sent how && goes_on_behind at.flow flow.request came) at from doing
-
-kept_below : (streams : Bool) (place : Place) (at : At) (flow : Flow) (side : ℕ) (how : Sent) (most : Option ℕ) (seen : Sight) →
-    PassesBelow (busy at flow (response_body side how most)) (pass_kept streams place at flow side how most seen).stage
-kept_below true place at flow side how most seen =
-    came_below place at (streaming flow) flow side how seen (came_in (streaming flow) seen) (response_body side how most) (λ is. is)
-kept_below false place at flow side how most seen = still_below (busy at flow (response_body side how most))
-
--- and where a response comes down
-comes_below : (terms : Terms) (stage : Stage) (seen : Sight) → PassesBelow stage (come_down terms stage seen).stage
-comes_below terms (idle at) seen = still_below (idle at)
-comes_below terms (busy at flow (request_body given size)) seen = still_below (busy at flow (request_body given size))
-comes_below terms (busy at flow (connection how)) seen = still_below (busy at flow (connection how))
-comes_below terms (busy at flow (response_head side how)) seen = still_below (busy at flow (response_head side how))
-comes_below terms (busy at flow (response_body side how most)) seen = kept_below (streams_in flow most seen) terms.place at flow side how most seen
-comes_below terms (busy at flow (coming_down side how)) seen =
-    came_below terms.place at flow flow side how seen (came_in flow seen) (coming_down side how) (λ is. is)
-comes_below terms (busy at flow (upgraded side)) seen = still_below (busy at flow (upgraded side))
-comes_below terms (busy at flow given_head) seen = still_below (busy at flow given_head)
-comes_below terms (busy at flow given_body) seen = still_below (busy at flow given_body)
-comes_below terms (next at) seen = still_below (next at)
-comes_below terms over seen = still_below over
-
-passes_below : (terms : Terms) (stage : Stage) (seen : Sight) → PassesBelow stage (pass terms stage seen).stage
-passes_below terms stage seen =
-    let begun : Stage = begin_up terms stage seen in
-    let there : Stage = gone_up terms stage seen in
-    let to : Stage = (pass terms stage seen).stage in
-    below_both stage begun to (begins_below terms stage seen)
-    (below_both begun there to (ends_below terms begun (sight_begun stage seen)) (comes_below terms there (sight_gone terms stage seen)))
-
--- no more servers were dialled where it passes
-pub passes_few : (terms : Terms) (stage : Stage) (seen : Sight) → dialled (pass terms stage seen).stage ≤ dialled stage
-passes_few terms stage seen = (passes_below terms stage seen).few
-
--- A server behind those that were dialled is sent nothing where it passes.
-pub pass_far : (server : ℕ) (terms : Terms) (stage : Stage) (seen : Sight) → ServersBelow stage → dialled stage ≤ server → IsSilent server (pass terms stage seen).owed
-pass_far server terms stage seen below few =
-    let begins = begins_below terms stage seen in
-    let fewer = begins.few in
-    pass_silent server terms stage seen (not_up_below server (begin_up terms stage seen) (begins.below below) (omega arith))
-
--- nor while it waits
-pub so_far_far : (server : ℕ) (terms : Terms) (stage : Stage) (seen : Sight) → ServersBelow stage → dialled stage ≤ server → IsSilent server (so_far terms stage seen)
-so_far_far server terms stage seen below few = so_far_silent server terms stage seen (not_up_below server stage below few)
-
-sequence_same : (stage : Stage) → dialled (sequence stage) ≡ dialled stage
-sequence_same (idle at) = refl
-sequence_same (busy at flow doing) = refl
-sequence_same (next at) = refl
-sequence_same over = refl
-
-pub onward_same : (onward : Stage → Stage) → IsOnward onward → (stage : Stage) → dialled (onward stage) ≡ dialled stage
-onward_same onward (is_alone is) stage = ap (λ f. dialled (f stage)) is
-onward_same onward (is_sequence is) stage = ap (λ f. dialled (f stage)) is ∙ sequence_same stage
-
--- ---- the counts of the chain
-
--- where the next flow begins, the servers stay below
-below_onward : (onward : Stage → Stage) → IsOnward onward → (stage : Stage) → ServersBelow stage → ServersBelow (onward stage)
-below_onward onward goes stage below = rw (side_onward onward goes stage, onward_same onward goes stage) below
-
--- and behind a reply
-below_between : (was : Option Parked) (least most : ℕ) (stage : Stage) → IsBetween was least most stage → ServersBelow stage
-below_between was least most (idle at) between = between.1
-below_between was least most (busy at flow doing) between = between.1
-below_between was least most (next at) between = between.1
-below_between was least most over between = tt
-
-few_between : (was : Option Parked) (least most : ℕ) (stage : Stage) → IsBetween was least most stage → dialled stage ≤ most
-few_between was least most (idle at) between = between.0.1
-few_between was least most (busy at flow doing) between = between.0.1
-few_between was least most (next at) between = between.0.1
-few_between was least most over between = omega arith
-
--- the count of a place
-abbrev pub dialled_at : Standing → ℕ
-dialled_at place = dialled place.stage
-
-passes_counted : (onward : Stage → Stage) → IsOnward onward → (terms : Terms) (place : Standing) (seen : Sight) → AreBelow place →
-    Counts dialled_at AreBelow (dialled place.stage) (record { owed = (pass terms place.stage seen).owed; stage = passed onward terms place seen })
-passes_counted onward goes terms place seen below =
-    let to : Stage = (pass terms place.stage seen).stage in
-    let same = onward_same onward goes to in
-    let fewer = passes_few terms place.stage seen in
-    record {
-      silent = λ server more. pass_far server terms place.stage seen below more;
-      few = omega arith;
-      stays = below_onward onward goes to ((passes_below terms place.stage seen).below below);
-    }
-
-pub turns_counted : (onward : Stage → Stage) → IsOnward onward → (terms : Terms) (place : Standing) (prefix : List (Timed Event)) (answer : Timed Reply) → AreBelow place →
-    Counts dialled_at AreBelow (dialled place.stage + connects answer.value) ((http_chain onward terms).turn place prefix answer)
-turns_counted onward goes terms place prefix answer below =
-    let seen : Sight = sight_over place prefix in
-    let from : Stage = place.stage in
-    let led = turn_leads (dialled from + connects answer.value) terms from seen answer below (beyond_by (dialled from + connects answer.value) answer.value from (omega arith)) in
-    let turned : Stage = (turn terms from seen answer).stage in
-    let same = onward_same onward goes turned in
-    let fewer = few_between (parked_at from) (dialled from) (dialled from + connects answer.value) turned led.1 in
-    record {
-      silent = λ server more. (turn_leads server terms from seen answer below (beyond_by server answer.value from more)).0;
-      few = omega arith;
-      stays = below_onward onward goes turned (below_between (parked_at from) (dialled from) (dialled from + connects answer.value) turned led.1);
-    }
-
--- A conversation of HTTP, or one flow, sends to servers that were dialled and connected before, the one whose side is open among them.
-pub http_counts : (onward : Stage → Stage) → IsOnward onward → (terms : Terms) → CountsServers (http_chain onward terms) dialled_at AreBelow
-http_counts onward goes terms = record {
-  passes = λ place prefix below. passes_counted onward goes terms place (sight_over place prefix) below;
-  looks = λ place prefix below server more. looks_silent server terms place.stage (sight_over place prefix);
-  waits = λ place prefix below server more. so_far_far server terms place.stage (sight_over place prefix) below more;
-  behind = λ place prefix below server more. behind_silent server place.stage (sight_over place prefix);
-  turns = λ place prefix ask answer below asked. turns_counted onward goes terms place prefix answer below;
-}
-
--- One that begins with a parked side among so many servers sends nothing to a server that the answers do not reach.
-pub silent_with : (onward : Stage → Stage) → IsOnward onward → (terms : Terms) (at : At) → ParkedBelow at.parked at.dials →
-    (server : ℕ) (moves : List Move) → at.dials + connections moves ≤ server → IsSilent server (due_by (http_chain onward terms) (begin (idle at)) moves)
-silent_with onward goes terms at below server moves few =
-    counted_from (http_chain onward terms) dialled_at AreBelow (http_counts onward goes terms) server (begin (idle at)) moves (parked_below at.parked at.dials below) few
-
-none_below : (at : At) → at.parked ≡ None → ParkedBelow at.parked at.dials
-none_below at none = rw none tt
-
--- A conversation, or one flow, that begins with no server sends nothing to a server whose dial was not answered with its
--- connection.
-pub silent_from : (onward : Stage → Stage) → IsOnward onward → (terms : Terms) (at : At) → at.parked ≡ None → at.dials ≡ 0 → (server : ℕ) (moves : List Move) →
-    NoAnswer server moves → IsSilent server (due_by (http_chain onward terms) (begin (idle at)) moves)
-silent_from onward goes terms at alone first server moves none =
-    counted_silent (http_chain onward terms) dialled_at AreBelow (http_counts onward goes terms) server (begin (idle at)) moves
-    (parked_below at.parked at.dials (none_below at alone)) first none
-
-nothing_found : (terms : Terms) (at : At) → found (or_leaves false (shut_server (server_parked at.parked (sight_over (begin (idle at)) [])))
-    (look_head terms at.flow (request_item []) 0 (server_parked at.parked (sight_over (begin (idle at)) [])) false)) ≡ []
-nothing_found terms at =
-    let empty : request_item [] ≡ missing = refl in
-    let used : Used = server_parked at.parked (sight_over (begin (idle at)) []) in
-    ap (λ i. found (or_leaves false (shut_server used) (look_head terms at.flow i 0 used false))) empty
-
--- Where no move was made nothing is due.
-pub nothing_yet : (onward : Stage → Stage) → IsOnward onward → (terms : Terms) (at : At) → due_by (http_chain onward terms) (begin (idle at)) [] ≡ []
-nothing_yet onward (is_alone is) terms at = rw is (nothing_found terms at)
-nothing_yet onward (is_sequence is) terms at = rw is (nothing_found terms at)
+        let was : Before = before_at (busy at flow given_body) in
+        let most : ℕ = at.dials + connects answer.value in
+        let there : At = unspoilt_at at seen in
+        whole_answer_leads was at.dials most there flow answer (server_parked there.parked seen) seen.closed (stays_at was at seen most refl (omega arith) below)
+    turn_leads (next at) seen answer below before =
+        (refl, stays_at (before_at (next at)) at seen (at.dials + connects answer.value) refl (omega arith) below)
+    turn_leads over seen answer below before = over_leads (before_at over) 0 (0 + connects answer.value) [] refl

@@ -25,18 +25,20 @@ use Rattle.px_exchange.specs.Places.{dialled_for}
 use Rattle.px_exchange.specs.Requests.{is_head}
 use Rattle.px_exchange.specs.Texts.{interim_commands}
 use Rattle.px_parts.specs.Texts.{left_of}
-use Rattle.px_chain.specs.Chain.{goes_to, goes_up_by, is_silent, is_unheard, look, parked_for, pass, pass_came, past_gone, reached, sequence, sight_past, so_far, turn, turn_taken_whole}
+use Rattle.px_chain.specs.Chain.{goes_to, goes_up_by, look, parked_for, pass, pass_came, past_gone, reached, sequence, sight_past, so_far, turn, turn_taken_whole}
+use Rattle.px_chain.specs.Keeping.{is_silent, keeps_side, parks, shut_by_byte, shut_stray, unspoilt_at, unspoilt_by}
 use Rattle.px_chain.specs.Coming.{Came, came_by, came_in, coming_text, goes_on_behind, streaming, streams_by, streams_in}
 use Rattle.px_chain.specs.Going.{going_text, goes_up, sending_on, sends_going, whole_by, with_whole}
 use Rattle.px_chain.specs.Sights.{Sight, answers_in, left_by, request_in}
-use Rattle.px_chain.specs.Stages.{At, Stage, all_sent, busy, coming_down, connection, going_up, idle, next, over, request_body, response_body, response_head, unparked}
+use Rattle.px_chain.specs.Stages.{At, Parked, Stage, all_sent, busy, coming_down, connection, going_up, idle, next, over, request_body, response_body, response_head, unparked}
 use Rattle.px_chain.proofs.ChainLaws.{behind_turn, leaves_by, passes_by}
 use Rattle.px_chain.proofs.ComingLaws.{keeps_here, streams_here}
 use Rattle.px_chain.proofs.UpLaws.{goes_up_here, stays_here}
 
-and_false : (b : Bool) → (b && false) ≡ false
-and_false true = refl
-and_false false = refl
+-- where none is parked there is none whose keeping could end
+spoilt_none : (silent : Bool) (parked : Option Parked) → parked ≡ None → unspoilt_by silent parked ≡ None
+spoilt_none true parked is = is
+spoilt_none false parked is = refl
 
 -- what is seen of a server that has closed or not, and of a client likewise
 abbrev sees : List ℕ → Bool → List ℕ → Bool → ℕ → Sight
@@ -74,15 +76,27 @@ module _ (terms : Terms) (at : At) (flow : Flow) (response : Response) (side : �
   is_whole : (shut : Bool) → flow.response ≡ Some response → final shut ≡ complete head body trailers used → came_in flow (sees client false server shut now) ≡ Some came
   is_whole shut there whole = ap (λ given. came_by given (final shut)) there ∙ ap (came_by (Some response)) whole
 
-  -- The connection goes on: its text, the flow, and the close of its server's side; and the next request is awaited, which sees what the client sent.
+  -- The connection goes on, and its server's side is not kept: its text, the flow, and the close of that side; and the next request is awaited, which sees what the client sent.
   pub ends_its_flow : flow.response ≡ Some response → final false ≡ complete head body trailers used → goes_on_behind at.flow flow.request came ≡ true →
+      keeps_side flow.request (sees client false server false now) head ≡ false →
       (pass terms comes_down (sees client false server false now)
       ≡ record {
         owed = commands.Send Client (coming_text flow (sees client false server false now)) ∷ commands.Done (with_end flow now) ∷ commands.Close (Server side) ∷ [];
         stage = next (record (unparked at) { flow = at.flow + 1 });
       }) × ((sight_past terms comes_down (sees client false server false now)).client ≡ client)
-  ends_its_flow there whole goes_on =
-      let is = is_whole false there whole in (rw (is, goes_on) refl, rw is refl)
+  ends_its_flow there whole goes_on closes =
+      let is = is_whole false there whole in (rw (is, goes_on, closes) refl, rw is refl)
+
+  -- It is kept: that is parked, and not closed.
+  pub keeps_its_side : flow.response ≡ Some response → final false ≡ complete head body trailers used → goes_on_behind at.flow flow.request came ≡ true →
+      keeps_side flow.request (sees client false server false now) head ≡ true →
+      pass terms comes_down (sees client false server false now)
+      ≡ record {
+        owed = commands.Send Client (coming_text flow (sees client false server false now)) ∷ commands.Done (with_end flow now) ∷ [];
+        stage = next (record (parks true terms.place at flow.request side) { flow = at.flow + 1 });
+      }
+  keeps_its_side there whole goes_on keeps =
+      let is = is_whole false there whole in rw (is, goes_on, keeps) refl
 
   -- It does not: the client is closed as well. So is it behind a body that runs to the close, whose server's side is closed already.
   pub ends_the_conversation : flow.response ≡ Some response → final true ≡ complete head body trailers used → goes_on_behind at.flow flow.request came ≡ false →
@@ -142,29 +156,33 @@ module _ (terms : Terms) (at : At) (flow : Flow) (side : ℕ) (client server : L
   -- It is above the size: its server is dialled at once, and the hook of its body is not asked.
   pub above_three : goes_up (Some 3) here ≡ true → at.parked ≡ None →
       pass terms (busy at flow (request_body None (Some 3))) here ≡ goes_to (busy at (sending_on flow) (connection going_up))
-  above_three up none = rw (up, none) refl
+  above_three up none =
+      goes_up_here terms at flow (Some 3) here up
+      ∙ ap (λ parked. pass terms (goes_up_by (parked_for terms.place flow.request parked) terms.place at (sending_on flow)) here) (spoilt_none (is_silent here.server here.shut) at.parked none)
 
   -- It is not: it is kept, and its hook is asked once it is whole.
   pub below_three : goes_up (Some 3) here ≡ false → pass terms (busy at flow (request_body None (Some 3))) here ≡ goes_to (busy at flow (request_body None (Some 3)))
-  below_three kept = stays_here terms at flow (Some 3) here (ap (λ up. up && is_unheard (parked_for terms.place flow.request at.parked) here) kept)
+  below_three kept = stays_here terms at flow (Some 3) here kept
 
   -- It is, and its server is parked and has said nothing: it goes up there.
-  pub above_parked : goes_up (Some 3) here ≡ true → parked_for terms.place flow.request at.parked ≡ Some side → is_unheard (Some side) here ≡ true →
+  pub above_parked : goes_up (Some 3) here ≡ true → parked_for terms.place flow.request (unspoilt_at at here).parked ≡ Some side →
       pass terms (busy at flow (request_body None (Some 3))) here ≡ pass terms (goes_up_by (Some side) terms.place at (sending_on flow)) here
-  above_parked up parked unheard =
-      goes_up_here terms at flow (Some 3) here up (ap (λ to. is_unheard to here) parked ∙ unheard) ∙ ap (λ to. pass terms (goes_up_by to terms.place at (sending_on flow)) here) parked
+  above_parked up parked = goes_up_here terms at flow (Some 3) here up ∙ ap (λ to. pass terms (goes_up_by to terms.place at (sending_on flow)) here) parked
 
-  -- Something was seen of that: it is kept, whatever its size, as without one.
-  pub above_heard : (byte : ℕ) (more : List ℕ) (heard : Sight) → parked_for terms.place flow.request at.parked ≡ Some side → heard.server ≡ byte ∷ more →
-      pass terms (busy at flow (request_body None (Some 3))) heard ≡ goes_to (busy at flow (request_body None (Some 3)))
-  above_heard byte more heard parked said =
-      stays_here terms at flow (Some 3) heard
-      (ap (λ to. goes_up (Some 3) heard && is_unheard to heard) parked ∙ (ap (λ bytes. goes_up (Some 3) heard && is_silent bytes heard.shut) said ∙ and_false (goes_up (Some 3) heard)))
+  -- A byte came of that: it is closed, and a server is dialled, as without one.
+  pub above_heard : (first : ℕ) (more : List ℕ) (heard : Sight) (parked : Parked) → goes_up (Some 3) heard ≡ true → at.parked ≡ Some parked → heard.server ≡ first ∷ more →
+      (pass terms (busy at flow (request_body None (Some 3))) heard ≡ goes_to (busy at (sending_on flow) (connection going_up)))
+      × (so_far terms (busy at (sending_on flow) (connection going_up)) heard ≡ commands.Close (Server parked.server) ∷ [])
+  above_heard first more heard parked up is said = (
+    goes_up_here terms at flow (Some 3) heard up
+        ∙ ap (λ bytes. pass terms (goes_up_by (parked_for terms.place flow.request (unspoilt_by (is_silent bytes heard.shut) at.parked)) terms.place at (sending_on flow)) heard) said,
+    ap (λ it. shut_stray it heard ++ []) is ∙ ap (λ bytes. shut_by_byte parked.server bytes ++ []) said,
+  )
 
   -- Nothing is told of it before its server is there, also where its body is at fault by then: so a refused dial goes before a bad body.
-  pub dials_first : (look terms (busy at flow (connection going_up)) here ≡ Asks (commands.Dial at.dials (dialled_for terms.place flow.request) None))
+  pub dials_first : at.parked ≡ None → (look terms (busy at flow (connection going_up)) here ≡ Asks (commands.Dial at.dials (dialled_for terms.place flow.request) None))
       × (so_far terms (busy at flow (connection going_up)) here ≡ [])
-  dials_first = (refl, refl)
+  dials_first none = (refl, ap (λ parked. shut_stray parked here ++ []) none)
 
   pub is_refused : (fault : Fault) (moment : ℕ) → turn terms (busy at flow (connection going_up)) here (record { moment = moment; value = reply.Refused fault })
       ≡ record { owed = ends_by_fault flow fault moment NoServer false; stage = over }
@@ -231,6 +249,6 @@ module _ (terms : Terms) (at : At) (flow : Flow) (side : ℕ) (client server : L
       ap (λ size. passes_by size terms at flow (coming_down side going_up) here) (ap whole_by there) ∙ ap (λ c. pass_came terms.place at flow side going_up here c) is
 
   -- So is it behind one that is kept, whatever its code: 101 switches protocols behind a whole request alone.
-  pub kept_first : (response : Response) → turn_taken_whole at flow side going_up (GoesOn response) now (ByServer side false) false
+  pub kept_first : (response : Response) (keeps : Bool) → turn_taken_whole terms.place at flow side going_up keeps (GoesOn response) now (ByServer side false) false
       ≡ record { owed = finished flow response (ByServer side false) ++ commands.Close Client ∷ []; stage = over }
-  kept_first response = refl
+  kept_first response keeps = refl

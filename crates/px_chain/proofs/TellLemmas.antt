@@ -3,7 +3,7 @@
 use Rattle.std.proofs.Common.{◌≡◌, ℕ, ◌≤◌, ◌<◌, Bool, true, false, List, [], ◌++◌, length, drop, map, Option, Some, None, refl, ap, sym, ◌∙◌, subst, arith, append_assoc}
 use Rattle.std.specs.Prelude.{⊤, ◌≢◌, ◌==◌, ◌&&◌}
 use Rattle.std.proofs.Math.Seq.{drop-append_seam}
-use Rattle.std.proofs.lemmas.Bool.{eqb-true}
+use Rattle.std.proofs.lemmas.Bool.{eq-eqb, eqb-true}
 use Rattle.std.proofs.lemmas.List.{append-nil}
 use Rattle.px_text.specs.Prefix.{IsPrefixOf}
 use Rattle.px_message.specs.declared.flow.Flow.{Flow}
@@ -16,25 +16,108 @@ use Rattle.px_event.proofs.LineLemmas.{bytes_alone}
 use Rattle.px_read.specs.Items.{Item, missing, part, complete, bad_head, bad_body}
 use Rattle.px_read.specs.Laws.{head_in}
 use Rattle.px_read.specs.declared.head.RequestHead.{RequestHead as ReadRequest}
+use Rattle.px_read.specs.declared.head.ResponseHead.{ResponseHead as ReadResponse}
 use Rattle.px_exchange.specs.declared.place.Place.{Place}
 use Rattle.px_exchange.specs.declared.place.Place.TheVariants as places
+use Rattle.px_exchange.specs.declared.ending.Used.{Used}
 use Rattle.px_exchange.specs.declared.ending.Used.TheVariants.{NoServer}
 use Rattle.px_exchange.specs.declared.terms.Terms.{Terms}
-use Rattle.px_exchange.specs.Endings.{shut_unless}
+use Rattle.px_exchange.specs.Endings.{shut_unless, unless_kept}
 use Rattle.px_exchange.specs.Places.{form_at, is_same_address, server_for}
 use Rattle.px_exchange.specs.Texts.{interim_commands}
 use Rattle.px_parts.specs.Texts.{left_of}
-use Rattle.px_chain.specs.Chain.{IsOnward, begin_up, begins_going, behind_flow, come_down, end_by, end_up, goes_up_by, going_at, gone_by, gone_up, is_alone, is_sequence, parked_for, pass, pass_came, pass_given, pass_going, pass_kept, past_came, past_gone, past_kept, sequence, side_if, sight_begun, sight_come, sight_ended, sight_gone, sight_past, so_far}
-use Rattle.px_chain.specs.Coming.{Came, came_in, finished_coming, goes_on_behind, sends_coming, streaming, streams_in}
-use Rattle.px_chain.specs.Going.{framed_up, going_by, going_text, is_sent, sending_on, sends_going, told_behind, told_doing, whole_in}
+use Rattle.px_chain.specs.Chain.{IsOnward, begin_up, behind_flow, come_down, end_by, end_up, goes_up_by, going_at, gone_by, gone_up, is_alone, is_sequence, keeps_came, parked_for, pass, pass_came, pass_given, pass_going, pass_kept, past_came, past_gone, past_kept, sequence, side_if, sight_begun, sight_come, sight_ended, sight_gone, sight_past, so_far}
+use Rattle.px_chain.specs.Keeping.{is_silent, keeps_side, parks, unspoilt_at, unspoilt_by}
+use Rattle.px_chain.specs.Coming.{Came, came_by, came_in, finished_coming, goes_on_behind, sends_coming, streaming, streams_in}
+use Rattle.px_chain.specs.Going.{framed_up, goes_up, going_by, going_text, is_sent, sending_on, sends_going, told_behind, told_doing, whole_by, whole_in}
 use Rattle.px_chain.specs.Sent.{GoesToParked, IsSentOnce, going_on, nothing}
 use Rattle.px_chain.specs.Sights.{Sight, answers_in, request_in, server_in}
-use Rattle.px_chain.specs.Stages.{At, Doing, Parked, Sent, Stage, all_sent, busy, coming_down, connection, given_body, given_head, going_up, idle, next, over, request_body, response_body, response_head, side_parked, unparked, upgraded}
+use Rattle.px_chain.specs.Stages.{At, Doing, Parked, Sent, Stage, all_sent, busy, coming_down, connection, given_body, given_head, going_up, idle, next, over, request_body, response_body, response_head, side_parked, upgraded}
 use Rattle.px_chain.proofs.CountedLemmas.{IsSilent}
 use Rattle.px_chain.proofs.GoingLaws.{going_text_grows}
 use Rattle.px_chain.proofs.OnceLemmas.{sent_join, sent_to}
 use Rattle.px_chain.proofs.NotUp.{IsNotUp, IsNotUpBy, gone_not_up}
-use Rattle.px_chain.proofs.SilentLemmas.{IsParkedFrom, ServersBelow, SideBelow, came_silent, finished_down, for_below, none_parked, same_parked, so_far_silent, up_silent, waits_silent}
+use Rattle.px_chain.proofs.SilentLemmas.{ServersBelow, SideBelow, came_silent, finished_down, for_below, so_far_silent, unspoilt_below, up_silent, waits_silent}
+
+-- ---- no response of a server is whole
+
+abbrev pub IsUnansweredBy : ℕ → ℕ → Flow → Sight → Type 0
+IsUnansweredBy server side flow seen = (side == server) ≡ true → whole_by (answers_in flow.request seen).final ≡ None
+
+abbrev pub IsUnanswered : ℕ → Stage → Sight → Type 0
+IsUnanswered server (busy at flow (response_body side how most)) seen = IsUnansweredBy server side flow seen
+IsUnanswered server (busy at flow (coming_down side how)) seen = IsUnansweredBy server side flow seen
+IsUnanswered server stage seen = ⊤
+
+came_whole : (given : Option Response) (item : Item ReadResponse) (came : Came) → came_by given item ≡ Some came → whole_by item ≡ None → ⊥
+came_whole None item came is none = let e : None ≡ Some came = is in cc
+came_whole (Some response) missing came is none = let e : None ≡ Some came = is in cc
+came_whole (Some response) (part head body) came is none = let e : None ≡ Some came = is in cc
+came_whole (Some response) (complete head body trailers size) came is none = let e : Some size ≡ None = none in cc
+came_whole (Some response) (bad_head fault) came is none = let e : None ≡ Some came = is in cc
+came_whole (Some response) (bad_body fault head body) came is none = let e : None ≡ Some came = is in cc
+
+-- so one that came down whole is another's
+not_its : (same : Bool) (server side : ℕ) (flow : Flow) (seen : Sight) (came : Came) → (side == server) ≡ same → came_in flow seen ≡ Some came → IsUnansweredBy server side flow seen →
+    (side == server) ≡ false
+not_its true server side flow seen came is there none = absurd (came_whole flow.response (answers_in flow.request seen).final came there (none is))
+not_its false server side flow seen came is there none = is
+
+not_server : (server side : ℕ) (flow : Flow) (seen : Sight) (came : Came) → came_in flow seen ≡ Some came → IsUnansweredBy server side flow seen → (side == server) ≡ false
+not_server server side flow seen came there none = not_its (side == server) server side flow seen came refl there none
+
+-- it stays so where a request goes up
+unanswered_gone : (server : ℕ) (g : Option ℕ) (place : Place) (at : At) (flow : Flow) (doing : Doing) (seen : Sight) → IsUnanswered server (busy at flow doing) seen →
+    IsUnanswered server (end_by g place at flow doing seen).stage (past_gone g seen)
+unanswered_gone server None place at flow doing seen is = is
+unanswered_gone server (Some to) place at flow (request_body given size) seen is = tt
+unanswered_gone server (Some to) place at flow (connection how) seen is = tt
+unanswered_gone server (Some to) place at flow (response_head side how) seen is = tt
+unanswered_gone server (Some to) place at flow (response_body side how most) seen is = is
+unanswered_gone server (Some to) place at flow (coming_down side how) seen is = is
+unanswered_gone server (Some to) place at flow (upgraded side) seen is = tt
+unanswered_gone server (Some to) place at flow given_head seen is = tt
+unanswered_gone server (Some to) place at flow given_body seen is = tt
+
+unanswered_ended : (server : ℕ) (terms : Terms) (stage : Stage) (seen : Sight) → IsUnanswered server stage seen → IsUnanswered server (end_up terms stage seen).stage (sight_ended stage seen)
+unanswered_ended server terms (idle at) seen is = tt
+unanswered_ended server terms (busy at flow doing) seen is = unanswered_gone server (gone_by (going_at doing) (whole_in seen)) terms.place at flow doing seen is
+unanswered_ended server terms (next at) seen is = tt
+unanswered_ended server terms over seen is = tt
+
+up_unanswered : (server : ℕ) (side : Option ℕ) (place : Place) (at : At) (flow : Flow) (seen : Sight) → IsUnanswered server (goes_up_by side place at flow) seen
+up_unanswered server None place at flow seen = tt
+up_unanswered server (Some side) place at flow seen = tt
+
+going_unanswered : (server : ℕ) (up : Bool) (place : Place) (at : At) (flow : Flow) (size : Option ℕ) (seen : Sight) → IsUnanswered server (pass_going up place at flow size seen) seen
+going_unanswered server true place at flow size seen = up_unanswered server (parked_for place flow.request (unspoilt_at at seen).parked) place at (sending_on flow) seen
+going_unanswered server false place at flow size seen = tt
+
+given_unanswered : (server : ℕ) (at : At) (flow : Flow) (response : Response) (size : Option ℕ) (item : Item ReadRequest) (now : ℕ) (past : Sight) →
+    IsUnanswered server (pass_given at flow response size item now) past
+given_unanswered server at flow response size missing now past = tt
+given_unanswered server at flow response size (part head body) now past = tt
+given_unanswered server at flow response size (complete head body trailers used) now past = tt
+given_unanswered server at flow response size (bad_head fault) now past = tt
+given_unanswered server at flow response size (bad_body fault head body) now past = tt
+
+unanswered_begun : (server : ℕ) (terms : Terms) (stage : Stage) (seen : Sight) → IsUnanswered server stage seen → IsUnanswered server (begin_up terms stage seen) (sight_begun stage seen)
+unanswered_begun server terms (idle at) seen is = tt
+unanswered_begun server terms (busy at flow (request_body None size)) seen is = going_unanswered server (goes_up size seen) terms.place at flow size seen
+unanswered_begun server terms (busy at flow (request_body (Some response) size)) seen is =
+    given_unanswered server at flow response size (request_in seen) seen.now (sight_begun (busy at flow (request_body (Some response) size)) seen)
+unanswered_begun server terms (busy at flow (connection how)) seen is = tt
+unanswered_begun server terms (busy at flow (response_head side how)) seen is = tt
+unanswered_begun server terms (busy at flow (response_body side how most)) seen is = is
+unanswered_begun server terms (busy at flow (coming_down side how)) seen is = is
+unanswered_begun server terms (busy at flow (upgraded side)) seen is = tt
+unanswered_begun server terms (busy at flow given_head) seen is = tt
+unanswered_begun server terms (busy at flow given_body) seen is = tt
+unanswered_begun server terms (next at) seen is = tt
+unanswered_begun server terms over seen is = tt
+
+unanswered_up : (server : ℕ) (terms : Terms) (stage : Stage) (seen : Sight) → IsUnanswered server stage seen → IsUnanswered server (gone_up terms stage seen) (sight_gone terms stage seen)
+unanswered_up server terms stage seen is = unanswered_ended server terms (begin_up terms stage seen) (sight_begun stage seen) (unanswered_begun server terms stage seen is)
 
 -- ---- what is so of the number of dials of a stage, and of the side that is parked there; at the end it counts for nothing
 
@@ -45,15 +128,16 @@ IsAt holds (next at) = holds at.dials at.parked
 IsAt holds over = ⊤
 
 module _ (holds : ℕ → Option Parked → Type 0) where
-  -- where a side is used or closed none is parked
-  module _ (closes : (dials : ℕ) (parked : Option Parked) → holds dials parked → holds dials None) where
+  -- where a side is used or closed none is parked, and behind a response of another server that one's may be
+  module _ (closes : (dials : ℕ) (parked : Option Parked) → holds dials parked → holds dials None) (server : ℕ)
+      (keeps : (dials : ℕ) (parked : Option Parked) (own : Parked) → (own.server == server) ≡ false → holds dials parked → holds dials (Some own)) where
     up_at : (side : Option ℕ) (place : Place) (at : At) (flow : Flow) → holds at.dials at.parked → IsAt holds (goes_up_by side place at flow)
     up_at None place at flow is = is
     up_at (Some side) place at flow is = closes at.dials at.parked is
 
-    going_is_at : (up : Bool) (place : Place) (at : At) (flow : Flow) (size : Option ℕ) → holds at.dials at.parked → IsAt holds (pass_going up place at flow size)
-    going_is_at true place at flow size is = up_at (parked_for place flow.request at.parked) place at (sending_on flow) is
-    going_is_at false place at flow size is = is
+    going_is_at : (up : Bool) (place : Place) (at : At) (flow : Flow) (size : Option ℕ) (seen : Sight) → holds at.dials at.parked → IsAt holds (pass_going up place at flow size seen)
+    going_is_at true place at flow size seen is = up_at (parked_for place flow.request (unspoilt_at at seen).parked) place at (sending_on flow) is
+    going_is_at false place at flow size seen is = is
 
     given_is_at : (at : At) (flow : Flow) (response : Response) (size : Option ℕ) (item : Item ReadRequest) (now : ℕ) → holds at.dials at.parked → IsAt holds (pass_given at flow response size item now)
     given_is_at at flow response size missing now is = is
@@ -64,7 +148,7 @@ module _ (holds : ℕ → Option Parked → Type 0) where
 
     begin_at : (terms : Terms) (stage : Stage) (seen : Sight) → IsAt holds stage → IsAt holds (begin_up terms stage seen)
     begin_at terms (idle at) seen is = is
-    begin_at terms (busy at flow (request_body None size)) seen is = going_is_at (begins_going terms.place at flow size seen) terms.place at flow size is
+    begin_at terms (busy at flow (request_body None size)) seen is = going_is_at (goes_up size seen) terms.place at flow size seen is
     begin_at terms (busy at flow (request_body (Some response) size)) seen is = given_is_at at flow response size (request_in seen) seen.now is
     begin_at terms (busy at flow (connection how)) seen is = is
     begin_at terms (busy at flow (response_head side how)) seen is = is
@@ -86,36 +170,40 @@ module _ (holds : ℕ → Option Parked → Type 0) where
     end_at terms (next at) seen is = is
     end_at terms over seen is = tt
 
-    behind_at : (stays : Bool) (at : At) → holds at.dials at.parked → IsAt holds (behind_flow stays (unparked at))
-    behind_at true at is = closes at.dials at.parked is
-    behind_at false at is = tt
+    behind_at : (stays keep : Bool) (place : Place) (at : At) (request : Request) (side : ℕ) → (side == server) ≡ false → holds at.dials at.parked →
+        IsAt holds (behind_flow stays (parks (stays && keep) place at request side))
+    behind_at true true place at request side other is = keeps at.dials at.parked _ other is
+    behind_at true false place at request side other is = closes at.dials at.parked is
+    behind_at false keep place at request side other is = tt
 
-    came_at : (place : Place) (at : At) (flow : Flow) (side : ℕ) (how : Sent) (seen : Sight) (came : Option Came) → holds at.dials at.parked →
-        IsAt holds (pass_came place at flow side how seen came).stage
-    came_at place at flow side how seen None is = is
-    came_at place at flow side how seen (Some came) is = behind_at (is_sent how && goes_on_behind at.flow flow.request came) at is
+    came_at : (place : Place) (at : At) (flow : Flow) (side : ℕ) (how : Sent) (seen : Sight) (came : Option Came) → came_in flow seen ≡ came → IsUnansweredBy server side flow seen →
+        holds at.dials at.parked → IsAt holds (pass_came place at flow side how seen came).stage
+    came_at place at flow side how seen None there none is = is
+    came_at place at flow side how seen (Some came) there none is =
+        behind_at (is_sent how && goes_on_behind at.flow flow.request came) (keeps_side flow.request seen came.head) place at flow.request side (not_server server side flow seen came there none) is
 
-    kept_at : (streams : Bool) (place : Place) (at : At) (flow : Flow) (side : ℕ) (how : Sent) (most : Option ℕ) (seen : Sight) → holds at.dials at.parked →
+    kept_at : (streams : Bool) (place : Place) (at : At) (flow : Flow) (side : ℕ) (how : Sent) (most : Option ℕ) (seen : Sight) → IsUnansweredBy server side flow seen → holds at.dials at.parked →
         IsAt holds (pass_kept streams place at flow side how most seen).stage
-    kept_at true place at flow side how most seen is = came_at place at (streaming flow) side how seen (came_in (streaming flow) seen) is
-    kept_at false place at flow side how most seen is = is
+    kept_at true place at flow side how most seen none is = came_at place at (streaming flow) side how seen (came_in (streaming flow) seen) refl none is
+    kept_at false place at flow side how most seen none is = is
 
-    come_at : (terms : Terms) (stage : Stage) (seen : Sight) → IsAt holds stage → IsAt holds (come_down terms stage seen).stage
-    come_at terms (idle at) seen is = is
-    come_at terms (busy at flow (request_body given size)) seen is = is
-    come_at terms (busy at flow (connection how)) seen is = is
-    come_at terms (busy at flow (response_head side how)) seen is = is
-    come_at terms (busy at flow (response_body side how most)) seen is = kept_at (streams_in flow most seen) terms.place at flow side how most seen is
-    come_at terms (busy at flow (coming_down side how)) seen is = came_at terms.place at flow side how seen (came_in flow seen) is
-    come_at terms (busy at flow (upgraded side)) seen is = is
-    come_at terms (busy at flow given_head) seen is = is
-    come_at terms (busy at flow given_body) seen is = is
-    come_at terms (next at) seen is = is
-    come_at terms over seen is = tt
+    come_at : (terms : Terms) (stage : Stage) (seen : Sight) → IsUnanswered server stage seen → IsAt holds stage → IsAt holds (come_down terms stage seen).stage
+    come_at terms (idle at) seen none is = is
+    come_at terms (busy at flow (request_body given size)) seen none is = is
+    come_at terms (busy at flow (connection how)) seen none is = is
+    come_at terms (busy at flow (response_head side how)) seen none is = is
+    come_at terms (busy at flow (response_body side how most)) seen none is = kept_at (streams_in flow most seen) terms.place at flow side how most seen none is
+    come_at terms (busy at flow (coming_down side how)) seen none is = came_at terms.place at flow side how seen (came_in flow seen) refl none is
+    come_at terms (busy at flow (upgraded side)) seen none is = is
+    come_at terms (busy at flow given_head) seen none is = is
+    come_at terms (busy at flow given_body) seen none is = is
+    come_at terms (next at) seen none is = is
+    come_at terms over seen none is = tt
 
-    pub at_passed : (terms : Terms) (stage : Stage) (seen : Sight) → IsAt holds stage → IsAt holds (pass terms stage seen).stage
-    at_passed terms stage seen is =
-        come_at terms (gone_up terms stage seen) (sight_gone terms stage seen) (end_at terms (begin_up terms stage seen) (sight_begun stage seen) (begin_at terms stage seen is))
+    pub at_passed : (terms : Terms) (stage : Stage) (seen : Sight) → IsUnanswered server stage seen → IsAt holds stage → IsAt holds (pass terms stage seen).stage
+    at_passed terms stage seen none is =
+        come_at terms (gone_up terms stage seen) (sight_gone terms stage seen) (unanswered_up server terms stage seen none)
+        (end_at terms (begin_up terms stage seen) (sight_begun stage seen) (begin_at terms stage seen is))
 
   at_sequence : (stage : Stage) → IsAt holds stage → IsAt holds (sequence stage)
   at_sequence (idle at) is = is
@@ -138,9 +226,19 @@ IsOther server (Some parked) = parked.server ≢ server
 abbrev pub IsBehind : ℕ → ℕ → Option Parked → Type 0
 IsBehind server dials parked = (server < dials) × IsOther server parked
 
--- so many servers were dialled at least, and the side is parked that the conversation began with, or none
-abbrev pub IsSince : Option Parked → ℕ → ℕ → Option Parked → Type 0
-IsSince first least dials parked = (least ≤ dials) × IsParkedFrom first parked
+-- another number is another server's
+pub not_same : (own server : ℕ) → (own == server) ≡ false → own ≢ server
+not_same own server other is = let e : true ≡ false = sym (eq-eqb own server is) ∙ other in cc
+
+-- the side is parked that was, or none, or another server's
+pub data IsFirst (server : ℕ) (first parked : Option Parked) : Type 0 where
+  is_first : parked ≡ first → IsFirst server first parked
+  is_none : parked ≡ None → IsFirst server first parked
+  is_other : (own : Parked) → parked ≡ Some own → (own.server == server) ≡ false → IsFirst server first parked
+
+-- so many servers were dialled at least, and the side is parked that the conversation began with, or none, or another server's
+abbrev pub IsSince : ℕ → Option Parked → ℕ → ℕ → Option Parked → Type 0
+IsSince server first least dials parked = (least ≤ dials) × IsFirst server first parked
 
 -- a request goes to the side that is parked, where it goes to its address
 side_if_there : (to_it : Bool) (parked side : ℕ) → side_if to_it parked ≡ Some side → (to_it ≡ true) × (parked ≡ side)
@@ -161,11 +259,30 @@ not_other place request (Some parked) server goes other =
     other (let e : Some parked ≡ Some goes.side = goes.there in let number : goes.side.server ≡ server = goes.number in cc)
 
 -- and the one that the conversation began with
-pub first_goes : (place : Place) (request : Request) (first parked : Option Parked) (server : ℕ) → IsParkedFrom first parked → GoesToParked place parked server request →
+pub first_goes : (place : Place) (request : Request) (first parked : Option Parked) (server : ℕ) → IsFirst server first parked → GoesToParked place parked server request →
     GoesToParked place first server request
-first_goes place request first parked server (same_parked left) goes =
+first_goes place request first parked server (is_first left) goes =
     record { side = goes.side; there = sym left ∙ goes.there; number = goes.number; address = goes.address }
-first_goes place request first parked server (none_parked left) goes = absurd (let e : None ≡ Some goes.side = sym left ∙ goes.there in cc)
+first_goes place request first parked server (is_none left) goes = absurd (let e : None ≡ Some goes.side = sym left ∙ goes.there in cc)
+first_goes place request first parked server (is_other own left other) goes =
+    let same : Some own ≡ Some goes.side = sym left ∙ goes.there in
+    let number : goes.side.server ≡ server = goes.number in
+    absurd (not_same own.server server other (ap number_of same ∙ number))
+  where
+    number_of : Option Parked → ℕ
+    number_of None = server
+    number_of (Some parked) = parked.server
+
+-- it goes there where it goes to a side whose keeping has not ended
+pub unspoilt_goes : (silent : Bool) (place : Place) (request : Request) (parked : Option Parked) (server : ℕ) → GoesToParked place (unspoilt_by silent parked) server request →
+    GoesToParked place parked server request
+unspoilt_goes true place request parked server goes = goes
+unspoilt_goes false place request parked server goes = absurd (let e : None ≡ Some goes.side = goes.there in cc)
+
+unspoilt_for : (silent : Bool) (place : Place) (request : Request) (parked : Option Parked) (side : ℕ) → parked_for place request (unspoilt_by silent parked) ≡ Some side →
+    parked_for place request parked ≡ Some side
+unspoilt_for true place request parked side is = is
+unspoilt_for false place request parked side is = absurd (let e : None ≡ Some side = is in cc)
 
 -- how the request is framed says nothing of where it goes
 framed_server : (place : Place) (head : ReadRequest) (request : Request) → server_for place (framed_up head request) ≡ server_for place request
@@ -236,7 +353,7 @@ module _ (server : ℕ) (terms : Terms) (first : Option Parked) (least : ℕ) wh
   text_sent flow seen there = text_by flow seen (head_in (request_in seen)) refl there
 
   -- what was not sent of it is the rest
-  rest_sent : (flow : Flow) (seen : Sight) (sent : List ℕ) → TellsBy flow seen sent → sent ++ left_of seen.told (going_text terms.place flow seen) ≡ going_text terms.place flow seen
+  pub rest_sent : (flow : Flow) (seen : Sight) (sent : List ℕ) → TellsBy flow seen sent → sent ++ left_of seen.told (going_text terms.place flow seen) ≡ going_text terms.place flow seen
   rest_sent flow seen sent tells =
       let text : List ℕ = going_text terms.place flow seen in
       let more : List ℕ = tells.begins.0 in
@@ -244,7 +361,7 @@ module _ (server : ℕ) (terms : Terms) (first : Option Parked) (least : ℕ) wh
       ap (λ n. sent ++ drop n text) (sym tells.told)
       ∙ (ap (λ t. sent ++ drop (length sent) t) is ∙ (ap (λ l. sent ++ l) (drop-append_seam sent more) ∙ sym is))
 
-  sends_said : (flow : Flow) (seen : Sight) (side : ℕ) → (side == server) ≡ true → sent_to server (sends_going terms.place flow side seen) ≡ left_of seen.told (going_text terms.place flow seen)
+  pub sends_said : (flow : Flow) (seen : Sight) (side : ℕ) → (side == server) ≡ true → sent_to server (sends_going terms.place flow side seen) ≡ left_of seen.told (going_text terms.place flow seen)
   sends_said flow seen side is =
       let text : List ℕ = left_of seen.told (going_text terms.place flow seen) in
       rw is (ap bytes_in (append-nil (map byte text)) ∙ bytes_alone text)
@@ -272,7 +389,7 @@ module _ (server : ℕ) (terms : Terms) (first : Option Parked) (least : ℕ) wh
   -- ---- a request begins to go up
 
   parked_begins : (same : Bool) (side : ℕ) (at : At) (flow : Flow) (size : Option ℕ) (seen : Sight) (sent : List ℕ) → (side == server) ≡ same → parked_for terms.place flow.request at.parked ≡ Some side →
-      side < at.dials → seen.told ≡ 0 → IsSince first least at.dials at.parked →
+      side < at.dials → seen.told ≡ 0 → IsSince server first least at.dials at.parked →
       SaidAt (busy at flow (request_body None size)) seen sent → SaidAt (goes_up_by (Some side) terms.place at (sending_on flow)) seen sent
   parked_begins false side at flow size seen sent is there below told since said =
       settled_said (busy at flow (request_body None size)) (goes_up_by (Some side) terms.place at (sending_on flow)) seen seen sent (λ used. (used.0, tt)) is (λ tells. tells.0) said
@@ -292,17 +409,20 @@ module _ (server : ℕ) (terms : Terms) (first : Option Parked) (least : ℕ) wh
   parked_begins true side at flow size seen sent is there below told since (was_said all used up) =
       absurd (not_other terms.place flow.request at.parked server (goes_to terms.place flow.request at.parked side server there (eqb-true side server is)) used.1)
 
-  up_begins : (side : Option ℕ) (at : At) (flow : Flow) (size : Option ℕ) (seen : Sight) (sent : List ℕ) → parked_for terms.place flow.request at.parked ≡ side → SideBelow side at.dials →
-      seen.told ≡ 0 → IsSince first least at.dials at.parked →
+  up_begins : (side : Option ℕ) (at : At) (flow : Flow) (size : Option ℕ) (seen : Sight) (sent : List ℕ) → parked_for terms.place flow.request (unspoilt_at at seen).parked ≡ side →
+      SideBelow side at.dials → seen.told ≡ 0 → IsSince server first least at.dials at.parked →
       SaidAt (busy at flow (request_body None size)) seen sent → SaidAt (goes_up_by side terms.place at (sending_on flow)) seen sent
   up_begins None at flow size seen sent there below told since said =
       settled_said (busy at flow (request_body None size)) (busy at (sending_on flow) (connection going_up)) seen seen sent (λ used. used) tt (λ tells. tells.0) said
-  up_begins (Some side) at flow size seen sent there below told since said = parked_begins (side == server) side at flow size seen sent refl there below told since said
+  up_begins (Some side) at flow size seen sent there below told since said =
+      parked_begins (side == server) side at flow size seen sent refl (unspoilt_for (is_silent seen.server seen.shut) terms.place flow.request at.parked side there) below told since said
 
-  going_begins : (up : Bool) (at : At) (flow : Flow) (size : Option ℕ) (seen : Sight) (sent : List ℕ) → SideBelow (side_parked at.parked) at.dials → seen.told ≡ 0 → IsSince first least at.dials at.parked →
-      SaidAt (busy at flow (request_body None size)) seen sent → SaidAt (pass_going up terms.place at flow size) seen sent
+  going_begins : (up : Bool) (at : At) (flow : Flow) (size : Option ℕ) (seen : Sight) (sent : List ℕ) → SideBelow (side_parked at.parked) at.dials → seen.told ≡ 0 →
+      IsSince server first least at.dials at.parked → SaidAt (busy at flow (request_body None size)) seen sent → SaidAt (pass_going up terms.place at flow size seen) seen sent
   going_begins true at flow size seen sent below told since said =
-      up_begins (parked_for terms.place flow.request at.parked) at flow size seen sent refl (for_below terms.place flow.request at.parked at.dials below) told since said
+      let parked : Option Parked = (unspoilt_at at seen).parked in
+      up_begins (parked_for terms.place flow.request parked) at flow size seen sent refl
+      (for_below terms.place flow.request parked at.dials (unspoilt_below (is_silent seen.server seen.shut) at.parked at.dials below)) told since said
   going_begins false at flow size seen sent below told since said = said
 
   given_begins : (at : At) (flow : Flow) (response : Response) (size : Option ℕ) (item : Item ReadRequest) (now : ℕ) (seen past : Sight) (sent : List ℕ) →
@@ -314,10 +434,10 @@ module _ (server : ℕ) (terms : Terms) (first : Option Parked) (least : ℕ) wh
   given_begins at flow response size (bad_head fault) now seen past sent said = settled_said _ (busy at flow (request_body (Some response) size)) seen past sent (λ used. used) tt (λ tells. tells.0) said
   given_begins at flow response size (bad_body fault head body) now seen past sent said = settled_said _ (busy at flow (request_body (Some response) size)) seen past sent (λ used. used) tt (λ tells. tells.0) said
 
-  begin_said : (stage : Stage) (seen : Sight) (sent : List ℕ) → IsUntold stage seen.told → ServersBelow stage → IsAt (IsSince first least) stage →
+  begin_said : (stage : Stage) (seen : Sight) (sent : List ℕ) → IsUntold stage seen.told → ServersBelow stage → IsAt (IsSince server first least) stage →
       SaidAt stage seen sent → SaidAt (begin_up terms stage seen) (sight_begun stage seen) sent
   begin_said (idle at) seen sent told below since said = said
-  begin_said (busy at flow (request_body None size)) seen sent told below since said = going_begins (begins_going terms.place at flow size seen) at flow size seen sent below told since said
+  begin_said (busy at flow (request_body None size)) seen sent told below since said = going_begins (goes_up size seen) at flow size seen sent below told since said
   begin_said (busy at flow (request_body (Some response) size)) seen sent told below since said =
       given_begins at flow response size (request_in seen) seen.now seen (sight_begun (busy at flow (request_body (Some response) size)) seen) sent said
   begin_said (busy at flow (connection how)) seen sent told below since said = said
@@ -332,7 +452,7 @@ module _ (server : ℕ) (terms : Terms) (first : Option Parked) (least : ℕ) wh
 
   -- ---- one that goes up is whole
 
-  gone_from : (going size : Option ℕ) (side : ℕ) → gone_by going size ≡ Some side → going ≡ Some side
+  pub gone_from : (going size : Option ℕ) (side : ℕ) → gone_by going size ≡ Some side → going ≡ Some side
   gone_from None size side is = absurd (let e : None ≡ Some side = is in cc)
   gone_from (Some to) None side is = absurd (let e : None ≡ Some side = is in cc)
   gone_from (Some to) (Some size) side is = is
@@ -360,29 +480,35 @@ module _ (server : ℕ) (terms : Terms) (first : Option Parked) (least : ℕ) wh
 
   -- ---- a response comes down
 
-  behind_not_up : (stays : Bool) (at : At) → IsNotUp server (behind_flow stays (unparked at))
+  pub behind_not_up : (stays : Bool) (at : At) → IsNotUp server (behind_flow stays at)
   behind_not_up true at = tt
   behind_not_up false at = tt
 
-  behind_used : (stays : Bool) (at : At) → IsBehind server at.dials at.parked → IsAt (IsBehind server) (behind_flow stays (unparked at))
-  behind_used true at used = (used.0, tt)
-  behind_used false at used = tt
+  behind_used : (stays keep : Bool) (place : Place) (at : At) (request : Request) (side : ℕ) → (side == server) ≡ false → IsBehind server at.dials at.parked →
+      IsAt (IsBehind server) (behind_flow stays (parks (stays && keep) place at request side))
+  behind_used true true place at request side other used = (used.0, not_same side server other)
+  behind_used true false place at request side other used = (used.0, tt)
+  behind_used false keep place at request side other used = tt
 
-  came_said : (at : At) (flow : Flow) (side : ℕ) (how : Sent) (seen : Sight) (sent : List ℕ) (came : Option Came) → SaidAt (busy at flow (coming_down side how)) seen sent →
+  came_said : (at : At) (flow : Flow) (side : ℕ) (how : Sent) (seen : Sight) (sent : List ℕ) (came : Option Came) → came_in flow seen ≡ came → IsUnansweredBy server side flow seen →
+      SaidAt (busy at flow (coming_down side how)) seen sent →
       SaidAt (pass_came terms.place at flow side how seen came).stage (past_came came seen) (sent ++ sent_to server (pass_came terms.place at flow side how seen came).owed)
-  came_said at flow side how seen sent None said = subst (λ s. SaidAt (busy at flow (coming_down side how)) seen s) (sym (append-nil sent)) said
-  came_said at flow side how seen sent (Some came) (not_yet none up) =
-      not_yet (unsaid sent (pass_came terms.place at flow side how seen (Some came)).owed (came_silent server terms.place at flow side how seen (Some came) up) ∙ none)
-      (behind_not_up (is_sent how && goes_on_behind at.flow flow.request came) at)
-  came_said at flow side all_sent seen sent (Some came) (in_part used tells) = absurd tells.0
-  came_said at flow side going_up seen sent (Some came) (in_part used (up, tells)) =
+  came_said at flow side how seen sent None there none said = subst (λ s. SaidAt (busy at flow (coming_down side how)) seen s) (sym (append-nil sent)) said
+  came_said at flow side how seen sent (Some came) there none (not_yet empty up) =
+      not_yet (unsaid sent (pass_came terms.place at flow side how seen (Some came)).owed (came_silent server terms.place at flow side how seen (Some came) up) ∙ empty)
+      (behind_not_up (is_sent how && goes_on_behind at.flow flow.request came) (parks (keeps_came at flow how seen came) terms.place at flow.request side))
+  came_said at flow side all_sent seen sent (Some came) there none (in_part used tells) = absurd tells.0
+  came_said at flow side going_up seen sent (Some came) there none (in_part used (up, tells)) =
       let stays : Bool = is_sent going_up && goes_on_behind at.flow flow.request came in
-      let told = all_told flow seen side sent (finished_coming flow seen (server_in side seen) ++ shut_unless stays NoServer seen.closed) up (finished_down server at flow side seen stays) tells in
-      was_said (subst (λ s. IsAll s) (sym told) (text_sent flow seen tells.goes_there)) (behind_used stays at used) (behind_not_up stays at)
-  came_said at flow side how seen sent (Some came) (was_said all used up) =
+      let rest : Used = unless_kept (keeps_came at flow going_up seen came) (server_in side seen) in
+      let told = all_told flow seen side sent (finished_coming flow seen rest ++ shut_unless stays NoServer seen.closed) up (finished_down server flow rest seen stays) tells in
+      was_said (subst (λ s. IsAll s) (sym told) (text_sent flow seen tells.goes_there)) tt tt
+  came_said at flow side how seen sent (Some came) there none (was_said all used up) =
       let stays : Bool = is_sent how && goes_on_behind at.flow flow.request came in
       let same = unsaid sent (pass_came terms.place at flow side how seen (Some came)).owed (came_silent server terms.place at flow side how seen (Some came) up) in
-      was_said (subst (λ s. IsAll s) (sym same) all) (behind_used stays at used) (behind_not_up stays at)
+      was_said (subst (λ s. IsAll s) (sym same) all)
+      (behind_used stays (keeps_side flow.request seen came.head) terms.place at flow.request side (not_server server side flow seen came there none) used)
+      (behind_not_up stays (parks (keeps_came at flow how seen came) terms.place at flow.request side))
 
   -- one that is streamed
   streaming_said : (at : At) (flow : Flow) (side : ℕ) (how : Sent) (most : Option ℕ) (seen : Sight) (sent : List ℕ) → SaidAt (busy at flow (response_body side how most)) seen sent →
@@ -394,35 +520,36 @@ module _ (server : ℕ) (terms : Terms) (first : Option Parked) (least : ℕ) wh
   streaming_said at flow side going_up most seen sent (in_part used (up, tells)) = in_part used (up, record { told = tells.told; begins = tells.begins; goes_there = tells.goes_there })
   streaming_said at flow side going_up most seen sent (was_said all used up) = was_said all used up
 
-  kept_said : (streams : Bool) (at : At) (flow : Flow) (side : ℕ) (how : Sent) (most : Option ℕ) (seen : Sight) (sent : List ℕ) → SaidAt (busy at flow (response_body side how most)) seen sent →
+  kept_said : (streams : Bool) (at : At) (flow : Flow) (side : ℕ) (how : Sent) (most : Option ℕ) (seen : Sight) (sent : List ℕ) → IsUnansweredBy server side flow seen →
+      SaidAt (busy at flow (response_body side how most)) seen sent →
       SaidAt (pass_kept streams terms.place at flow side how most seen).stage (past_kept streams (came_in (streaming flow) seen) seen)
       (sent ++ sent_to server (pass_kept streams terms.place at flow side how most seen).owed)
-  kept_said true at flow side how most seen sent said =
-      came_said at (streaming flow) side how seen sent (came_in (streaming flow) seen) (streaming_said at flow side how most seen sent said)
-  kept_said false at flow side how most seen sent said = subst (λ s. SaidAt (busy at flow (response_body side how most)) seen s) (sym (append-nil sent)) said
+  kept_said true at flow side how most seen sent none said =
+      came_said at (streaming flow) side how seen sent (came_in (streaming flow) seen) refl none (streaming_said at flow side how most seen sent said)
+  kept_said false at flow side how most seen sent none said = subst (λ s. SaidAt (busy at flow (response_body side how most)) seen s) (sym (append-nil sent)) said
 
-  come_said : (stage : Stage) (seen : Sight) (sent : List ℕ) → SaidAt stage seen sent →
+  come_said : (stage : Stage) (seen : Sight) (sent : List ℕ) → IsUnanswered server stage seen → SaidAt stage seen sent →
       SaidAt (come_down terms stage seen).stage (sight_come stage seen) (sent ++ sent_to server (come_down terms stage seen).owed)
-  come_said (idle at) seen sent said = subst (λ s. SaidAt (idle at) seen s) (sym (append-nil sent)) said
-  come_said (busy at flow (request_body given size)) seen sent said = subst (λ s. SaidAt (busy at flow (request_body given size)) seen s) (sym (append-nil sent)) said
-  come_said (busy at flow (connection how)) seen sent said = subst (λ s. SaidAt (busy at flow (connection how)) seen s) (sym (append-nil sent)) said
-  come_said (busy at flow (response_head side how)) seen sent said = subst (λ s. SaidAt (busy at flow (response_head side how)) seen s) (sym (append-nil sent)) said
-  come_said (busy at flow (response_body side how most)) seen sent said = kept_said (streams_in flow most seen) at flow side how most seen sent said
-  come_said (busy at flow (coming_down side how)) seen sent said = came_said at flow side how seen sent (came_in flow seen) said
-  come_said (busy at flow (upgraded side)) seen sent said = subst (λ s. SaidAt (busy at flow (upgraded side)) seen s) (sym (append-nil sent)) said
-  come_said (busy at flow given_head) seen sent said = subst (λ s. SaidAt (busy at flow given_head) seen s) (sym (append-nil sent)) said
-  come_said (busy at flow given_body) seen sent said = subst (λ s. SaidAt (busy at flow given_body) seen s) (sym (append-nil sent)) said
-  come_said (next at) seen sent said = subst (λ s. SaidAt (next at) seen s) (sym (append-nil sent)) said
-  come_said over seen sent said = subst (λ s. SaidAt over seen s) (sym (append-nil sent)) said
+  come_said (idle at) seen sent none said = subst (λ s. SaidAt (idle at) seen s) (sym (append-nil sent)) said
+  come_said (busy at flow (request_body given size)) seen sent none said = subst (λ s. SaidAt (busy at flow (request_body given size)) seen s) (sym (append-nil sent)) said
+  come_said (busy at flow (connection how)) seen sent none said = subst (λ s. SaidAt (busy at flow (connection how)) seen s) (sym (append-nil sent)) said
+  come_said (busy at flow (response_head side how)) seen sent none said = subst (λ s. SaidAt (busy at flow (response_head side how)) seen s) (sym (append-nil sent)) said
+  come_said (busy at flow (response_body side how most)) seen sent none said = kept_said (streams_in flow most seen) at flow side how most seen sent none said
+  come_said (busy at flow (coming_down side how)) seen sent none said = came_said at flow side how seen sent (came_in flow seen) refl none said
+  come_said (busy at flow (upgraded side)) seen sent none said = subst (λ s. SaidAt (busy at flow (upgraded side)) seen s) (sym (append-nil sent)) said
+  come_said (busy at flow given_head) seen sent none said = subst (λ s. SaidAt (busy at flow given_head) seen s) (sym (append-nil sent)) said
+  come_said (busy at flow given_body) seen sent none said = subst (λ s. SaidAt (busy at flow given_body) seen s) (sym (append-nil sent)) said
+  come_said (next at) seen sent none said = subst (λ s. SaidAt (next at) seen s) (sym (append-nil sent)) said
+  come_said over seen sent none said = subst (λ s. SaidAt over seen s) (sym (append-nil sent)) said
 
   -- ---- where it passes
 
-  behind_sent : (sent : List ℕ) (xs ys : List Command) → (sent ++ sent_to server xs) ++ sent_to server ys ≡ sent ++ sent_to server (xs ++ ys)
+  pub behind_sent : (sent : List ℕ) (xs ys : List Command) → (sent ++ sent_to server xs) ++ sent_to server ys ≡ sent ++ sent_to server (xs ++ ys)
   behind_sent sent xs ys = append_assoc sent (sent_to server xs) (sent_to server ys) ∙ ap (λ l. sent ++ l) (sym (sent_join server xs ys))
 
-  pub pass_said : (stage : Stage) (seen : Sight) (sent : List ℕ) → IsUntold stage seen.told → ServersBelow stage → IsAt (IsSince first least) stage → SaidAt stage seen sent →
+  pub pass_said : (stage : Stage) (seen : Sight) (sent : List ℕ) → IsUntold stage seen.told → ServersBelow stage → IsAt (IsSince server first least) stage → IsUnanswered server stage seen → SaidAt stage seen sent →
       SaidAt (pass terms stage seen).stage (sight_past terms stage seen) (sent ++ sent_to server (pass terms stage seen).owed)
-  pass_said stage seen sent told below since said =
+  pass_said stage seen sent told below since none said =
       let begun : Stage = begin_up terms stage seen in
       let up : List Command = (end_up terms begun (sight_begun stage seen)).owed in
       let there : Stage = gone_up terms stage seen in
@@ -431,11 +558,11 @@ module _ (server : ℕ) (terms : Terms) (first : Option Parked) (least : ℕ) wh
       let to : Stage = (come_down terms there left).stage in
       let past : Sight = sight_past terms stage seen in
       subst (λ s. SaidAt to past s) (behind_sent sent up down)
-      (come_said there left (sent ++ sent_to server up) (end_said begun (sight_begun stage seen) sent (begin_said stage seen sent told below since said)))
+      (come_said there left (sent ++ sent_to server up) (unanswered_up server terms stage seen none) (end_said begun (sight_begun stage seen) sent (begin_said stage seen sent told below since said)))
 
   -- ---- one event more
 
-  tells_more : (stage : Stage) (seen later : Sight) (sent : List ℕ) → IsPrefixOf seen.client later.client → later.told ≡ seen.told → TellsAt stage seen sent → TellsAt stage later sent
+  pub tells_more : (stage : Stage) (seen later : Sight) (sent : List ℕ) → IsPrefixOf seen.client later.client → later.told ≡ seen.told → TellsAt stage seen sent → TellsAt stage later sent
   tells_more (idle at) seen later sent more same tells = tells
   tells_more (busy at flow doing) seen later sent more same (up, tells) = (
     up,
@@ -456,7 +583,7 @@ module _ (server : ℕ) (terms : Terms) (first : Option Parked) (least : ℕ) wh
   -- ---- while it waits
 
   -- what was sent of a request that goes up, with what its stage owes
-  waits_tell : (at : At) (flow : Flow) (doing : Doing) (seen : Sight) (sent : List ℕ) → IsUpBy server (going_at doing) → TellsBy flow seen sent →
+  pub waits_tell : (at : At) (flow : Flow) (doing : Doing) (seen : Sight) (sent : List ℕ) → IsUpBy server (going_at doing) → TellsBy flow seen sent →
       (sent ++ sent_to server (so_far terms (busy at flow doing) seen) ≡ going_text terms.place flow seen) × (told_doing terms.place flow doing seen ≡ length (going_text terms.place flow seen))
   waits_tell at flow (request_body given size) seen sent up tells = absurd up
   waits_tell at flow (connection how) seen sent up tells = absurd up
@@ -476,7 +603,7 @@ module _ (server : ℕ) (terms : Terms) (first : Option Parked) (least : ℕ) wh
   abbrev pub told_on : Stage → Sight → Sight
   told_on stage seen = record seen { told = told_behind terms.place stage seen }
 
-  waits_tell_at : (stage : Stage) (seen : Sight) (sent : List ℕ) → TellsAt stage seen sent → TellsAt stage (told_on stage seen) (sent ++ sent_to server (so_far terms stage seen))
+  pub waits_tell_at : (stage : Stage) (seen : Sight) (sent : List ℕ) → TellsAt stage seen sent → TellsAt stage (told_on stage seen) (sent ++ sent_to server (so_far terms stage seen))
   waits_tell_at (idle at) seen sent tells = absurd tells
   waits_tell_at (busy at flow doing) seen sent (up, tells) =
       let both = waits_tell at flow doing seen sent up tells in

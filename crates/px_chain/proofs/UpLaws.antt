@@ -23,19 +23,20 @@ use Rattle.px_exchange.specs.declared.ending.Used.{Used}
 use Rattle.px_exchange.specs.declared.ending.Used.TheVariants.{NoServer}
 use Rattle.px_exchange.specs.declared.place.Place.{Place}
 use Rattle.px_exchange.specs.declared.terms.Terms.{Terms}
-use Rattle.px_exchange.specs.Endings.{closed_message, ends_by_fault, ends_early, shut_unless, without_response}
+use Rattle.px_exchange.specs.Endings.{closed_message, ends_by_fault, ends_early, shut_unless, without_response, unless_kept}
 use Rattle.px_exchange.specs.Finds.{is_relayed, look_answer, look_returned, or_leaves}
 use Rattle.px_exchange.specs.Flows.{ask_of, with_returned}
 use Rattle.px_exchange.specs.Places.{dialled_for, form_at}
 use Rattle.px_exchange.specs.Texts.{interim_commands}
 use Rattle.px_parts.specs.Texts.{left_of, request_so_far}
 use Rattle.px_parts.proofs.ReadBackLemmas.{request-same}
-use Rattle.px_chain.specs.Chain.{begins_going, come_down, end_up, goes_to, goes_up_by, going_at, is_unheard, look, parked_for, pass, pass_came, pass_going, pass_kept, past_came, past_gone, past_kept, sight_ended, sight_past, so_far}
+use Rattle.px_chain.specs.Chain.{come_down, end_up, goes_to, goes_up_by, going_at, keeps_came, look, parked_for, pass, pass_came, pass_going, pass_kept, past_came, past_gone, past_kept, sight_ended, sight_past, so_far}
+use Rattle.px_chain.specs.Keeping.{parks, unspoilt_at}
 use Rattle.px_chain.specs.Coming.{Came, came_in, finished_coming, goes_on_behind, sends_coming, streaming, streams_in}
 use Rattle.px_chain.specs.Going.{framed_up, goes_up, going_by, going_text, is_going_up, is_sent, sending_on, sends_going, whole_in, with_whole}
 use Rattle.px_chain.specs.ReadBack.{MayGoUp}
 use Rattle.px_chain.specs.Sights.{Sight, answers_in, request_in, server_in}
-use Rattle.px_chain.specs.Stages.{At, Doing, Stage, all_sent, busy, coming_down, connection, given_body, given_head, going_up, request_body, response_body, response_head, unparked, upgraded}
+use Rattle.px_chain.specs.Stages.{At, Doing, Stage, all_sent, busy, coming_down, connection, given_body, given_head, going_up, request_body, response_body, response_head, upgraded}
 use Rattle.px_chain.proofs.ChainLaws.{behind_turn, leaves_by, passes_by}
 use Rattle.px_chain.proofs.ComingLaws.{asks_nothing, behind_owes, bytes_in_two, up_asks}
 use Rattle.px_chain.proofs.CountedLemmas.{IsSilent}
@@ -65,9 +66,11 @@ came_up : (terms : Terms) (at : At) (flow : Flow) (side : ℕ) (seen : Sight) (c
 came_up terms at flow side seen None = up_first terms.place flow side seen (sends_coming flow seen) refl
 came_up terms at flow side seen (Some came) =
     let stays : Bool = is_sent going_up && goes_on_behind at.flow flow.request came in
-    let rest : List Command = finished_coming flow seen (server_in side seen) ++ shut_unless stays NoServer seen.closed in
-    ap (λ l. sent_to side ((sends_going terms.place flow side seen ++ rest) ++ l)) (behind_owes terms stays (unparked at) (past_came (Some came) seen))
-    ∙ (ap (sent_to side) (append-nil (sends_going terms.place flow side seen ++ rest)) ∙ up_first terms.place flow side seen rest (finished_down side at flow side seen stays))
+    let kept : Bool = keeps_came at flow going_up seen came in
+    let used : Used = unless_kept kept (server_in side seen) in
+    let rest : List Command = finished_coming flow seen used ++ shut_unless stays NoServer seen.closed in
+    ap (λ l. sent_to side ((sends_going terms.place flow side seen ++ rest) ++ l)) (behind_owes terms stays (parks kept terms.place at flow.request side) (past_came (Some came) seen) refl)
+    ∙ (ap (sent_to side) (append-nil (sends_going terms.place flow side seen ++ rest)) ∙ up_first terms.place flow side seen rest (finished_down side flow used seen stays))
 
 -- where all was sent, nothing more is
 came_down : (terms : Terms) (at : At) (flow : Flow) (side : ℕ) (seen : Sight) (came : Option Came) →
@@ -75,9 +78,11 @@ came_down : (terms : Terms) (at : At) (flow : Flow) (side : ℕ) (seen : Sight) 
 came_down terms at flow side seen None = refl
 came_down terms at flow side seen (Some came) =
     let stays : Bool = is_sent all_sent && goes_on_behind at.flow flow.request came in
-    let rest : List Command = finished_coming flow seen (server_in side seen) ++ shut_unless stays NoServer seen.closed in
-    ap (λ l. sent_to side (rest ++ l)) (behind_owes terms stays (unparked at) (past_came (Some came) seen))
-    ∙ (ap (sent_to side) (append-nil rest) ∙ finished_down side at flow side seen stays)
+    let kept : Bool = keeps_came at flow all_sent seen came in
+    let used : Used = unless_kept kept (server_in side seen) in
+    let rest : List Command = finished_coming flow seen used ++ shut_unless stays NoServer seen.closed in
+    ap (λ l. sent_to side (rest ++ l)) (behind_owes terms stays (parks kept terms.place at flow.request side) (past_came (Some came) seen) refl)
+    ∙ (ap (sent_to side) (append-nil rest) ∙ finished_down side flow used seen stays)
 
 kept_up : (streams : Bool) (terms : Terms) (at : At) (flow : Flow) (side : ℕ) (most : Option ℕ) (seen : Sight) →
     let on = pass_kept streams terms.place at flow side going_up most seen in
@@ -182,16 +187,16 @@ up_same : (side : Option ℕ) (terms : Terms) (at : At) (flow : Flow) (seen : Si
 up_same None terms at flow seen = refl
 up_same (Some server) terms at flow seen = refl
 
--- one of which the bytes that came say so, where nothing was seen of its side
-pub goes_up_here : (terms : Terms) (at : At) (flow : Flow) (most : Option ℕ) (seen : Sight) → goes_up most seen ≡ true → is_unheard (parked_for terms.place flow.request at.parked) seen ≡ true →
-    pass terms (busy at flow (request_body None most)) seen ≡ pass terms (goes_up_by (parked_for terms.place flow.request at.parked) terms.place at (sending_on flow)) seen
-goes_up_here terms at flow most seen is unheard =
-    ap (λ up. passes_from terms (pass_going up terms.place at flow most) seen) (ap (λ up. up && is_unheard (parked_for terms.place flow.request at.parked) seen) is ∙ unheard) ∙ up_same (parked_for terms.place flow.request at.parked) terms at (sending_on flow) seen
+-- one of which the bytes that came say so: to a parked side whose keeping has not ended, or one that is dialled
+pub goes_up_here : (terms : Terms) (at : At) (flow : Flow) (most : Option ℕ) (seen : Sight) → goes_up most seen ≡ true →
+    pass terms (busy at flow (request_body None most)) seen ≡ pass terms (goes_up_by (parked_for terms.place flow.request (unspoilt_at at seen).parked) terms.place at (sending_on flow)) seen
+goes_up_here terms at flow most seen is =
+    ap (λ up. passes_from terms (pass_going up terms.place at flow most seen) seen) is ∙ up_same (parked_for terms.place flow.request (unspoilt_at at seen).parked) terms at (sending_on flow) seen
 
 -- another one is kept
-pub stays_here : (terms : Terms) (at : At) (flow : Flow) (most : Option ℕ) (seen : Sight) → begins_going terms.place at flow most seen ≡ false →
+pub stays_here : (terms : Terms) (at : At) (flow : Flow) (most : Option ℕ) (seen : Sight) → goes_up most seen ≡ false →
     pass terms (busy at flow (request_body None most)) seen ≡ goes_to (busy at flow (request_body None most))
-stays_here terms at flow most seen is = ap (λ up. passes_from terms (pass_going up terms.place at flow most) seen) is
+stays_here terms at flow most seen is = ap (λ up. passes_from terms (pass_going up terms.place at flow most seen) seen) is
 
 -- ---- what is found
 

@@ -1,12 +1,13 @@
 -- What a stage uses of the bytes that it sees had come, and what it leaves is what stands behind that.
 use Rattle.std.proofs.Common.{◌≡◌, ℕ, ◌+◌, ◌≤◌, List, drop, length, refl, ap, ◌∙◌, arith}
 use Rattle.std.proofs.lemmas.List.{drop-drop, length-drop}
+use Rattle.px_message.specs.declared.request.Request.{Request}
 use Rattle.px_read.specs.Items.{Answers, Body, Item, missing, part, complete, bad_head, bad_body}
 use Rattle.px_read.proofs.AnswerLemmas.{AreWithin, answers_used}
 use Rattle.px_read.proofs.ItemLemmas.{request_used}
 use Rattle.px_read.proofs.LawLemmas.{chunk_laws}
 use Rattle.px_exchange.specs.Requests.{is_head}
-use Rattle.px_chain.specs.Sights.{Sight, answers_in, client_left, client_used, left_by, request_in, server_left, server_used, used_with}
+use Rattle.px_chain.specs.Sights.{Sight, answers_in, client_left, client_used, left_by, left_by_answers, request_in, server_left, server_used, used_by_answers, used_with}
 use Rattle.px_chain.specs.Stages.{Stage, busy, coming_down, connection, given_body, given_head, idle, next, over, request_body, response_body, response_head, upgraded}
 
 -- ---- what is left
@@ -32,16 +33,20 @@ client_drop (busy at flow given_body) seen used bytes is = is
 client_drop (next at) seen used bytes is = is
 client_drop over seen used bytes is = is
 
+-- behind the responses to a request
+pub answers_drop : (answers : Answers) (server : List ℕ) (used : ℕ) (bytes : List ℕ) → server ≡ drop used bytes →
+    left_by_answers answers server ≡ drop (used_by_answers answers used) bytes
+answers_drop answers server used bytes is =
+    ap (λ l. left_by answers.final (drop answers.used l)) is
+    ∙ (ap (λ l. left_by answers.final l) (drop-drop answers.used used bytes) ∙ left_drop answers.final (used + answers.used) bytes)
+
 pub server_drop : (stage : Stage) (seen : Sight) (used : ℕ) (bytes : List ℕ) → seen.server ≡ drop used bytes →
     server_left stage seen ≡ drop (server_used stage seen used) bytes
 server_drop (idle at) seen used bytes is = is
 server_drop (busy at flow (request_body given size)) seen used bytes is = is
 server_drop (busy at flow (connection how)) seen used bytes is = is
 server_drop (busy at flow (response_head server sent)) seen used bytes is = is
-server_drop (busy at flow (response_body server sent most)) seen used bytes is =
-    let answers : Answers = answers_in flow.request seen in
-    ap (λ l. left_by answers.final (drop answers.used l)) is
-    ∙ (ap (λ l. left_by answers.final l) (drop-drop answers.used used bytes) ∙ left_drop answers.final (used + answers.used) bytes)
+server_drop (busy at flow (response_body server sent most)) seen used bytes is = answers_drop (answers_in flow.request seen) seen.server used bytes is
 server_drop (busy at flow (coming_down server sent)) seen used bytes is = is
 server_drop (busy at flow (upgraded server)) seen used bytes is = is
 server_drop (busy at flow given_head) seen used bytes is = is
@@ -93,15 +98,19 @@ answers_within server answers used bytes fit is within =
     item_within answers.final (used + answers.used) (length bytes) (omega arith)
     (λ head body trailers size there. let both = fit.final head body trailers size there in let fits = both.1 in omega arith)
 
+pub seen_within : (request : Request) (seen : Sight) (used : ℕ) (bytes : List ℕ) → seen.server ≡ drop used bytes → used ≤ length bytes →
+    used_by_answers (answers_in request seen) used ≤ length bytes
+seen_within request seen used bytes is within =
+    answers_within seen.server (answers_in request seen) used bytes
+    (answers_used chunk_laws (length seen.server) (is_head request.method) seen.shut seen.server) is within
+
 pub server_within : (stage : Stage) (seen : Sight) (used : ℕ) (bytes : List ℕ) → seen.server ≡ drop used bytes → used ≤ length bytes →
     server_used stage seen used ≤ length bytes
 server_within (idle at) seen used bytes is within = within
 server_within (busy at flow (request_body given size)) seen used bytes is within = within
 server_within (busy at flow (connection how)) seen used bytes is within = within
 server_within (busy at flow (response_head server sent)) seen used bytes is within = within
-server_within (busy at flow (response_body server sent most)) seen used bytes is within =
-    answers_within seen.server (answers_in flow.request seen) used bytes
-    (answers_used chunk_laws (length seen.server) (is_head flow.request.method) seen.shut seen.server) is within
+server_within (busy at flow (response_body server sent most)) seen used bytes is within = seen_within flow.request seen used bytes is within
 server_within (busy at flow (coming_down server sent)) seen used bytes is within = within
 server_within (busy at flow (upgraded server)) seen used bytes is within = within
 server_within (busy at flow given_head) seen used bytes is within = within

@@ -1,7 +1,7 @@
 -- What is due in a conversation of HTTP/1.1, as a chain of stages (RFC 9110, RFC 9112). What a stage finds, where it goes on
 -- without a reply and what a reply brings are functions of the stage and of what it looks at. A close of the client counts where
 -- nothing else is found in the same sight.
-use Rattle.std.specs.Prelude.{◌≡◌, ℕ, ◌+◌, ◌==◌, Bool, true, false, ◌&&◌, not, List, [], ◌∷◌, length, Option, Some, None, ◌++◌}
+use Rattle.std.specs.Prelude.{◌≡◌, ℕ, ◌+◌, ◌==◌, Bool, true, false, ◌&&◌, List, [], ◌∷◌, length, Option, Some, None, ◌++◌}
 use Rattle.px_message.specs.declared.address.Address.{Address}
 use Rattle.px_message.specs.declared.fault.Fault.{Fault}
 use Rattle.px_message.specs.declared.flow.Flow.{Flow}
@@ -28,7 +28,7 @@ use Rattle.px_exchange.specs.declared.terms.Terms.{Terms}
 use Rattle.px_exchange.specs.declared.place.Place.{Place}
 use Rattle.px_exchange.specs.declared.place.Place.TheVariants as places
 use Rattle.px_exchange.specs.Dials.{connected_owes, dial_owes}
-use Rattle.px_exchange.specs.Endings.{without_response, killed_message, closed_message, ends_by_fault, ends_early, connection_goes_on, finished, shut_server, shut_unless}
+use Rattle.px_exchange.specs.Endings.{without_response, killed_message, closed_message, ends_by_fault, ends_early, connection_goes_on, finished, shut_server, shut_unless, unless_kept}
 use Rattle.px_exchange.specs.Finds.{or_leaves, look_head, look_body, look_answer, look_returned}
 use Rattle.px_write.specs.Error.{fault_message}
 use Rattle.px_exchange.specs.Flows.{ask_of, with_body, response_of, with_answer, with_end, with_returned, with_start}
@@ -37,8 +37,9 @@ use Rattle.px_exchange.specs.Replies.{taken_at_request_head, taken_at_request_bo
 use Rattle.px_exchange.specs.Requests.{expects, flow_of, judged}
 use Rattle.px_exchange.specs.Texts.{interim_commands, meets_expectation, returned_text}
 use Rattle.px_chain.specs.Behind.{dials_at, used_by_turn}
+use Rattle.px_chain.specs.Keeping.{keeps_side, parks, strays, unspoilt, unspoilt_at}
 use Rattle.px_chain.specs.Going.{allowed_up_by, goes_up, is_sent, sending_on, sends_going, sends_up, told_behind, whole_in, with_whole}
-use Rattle.px_chain.specs.Sights.{Sight, Standing, UsedBytes, answers_in, left_by, request_in, server_in, server_parked, sight_over, used_with}
+use Rattle.px_chain.specs.Sights.{Sight, Standing, UsedBytes, answers_in, left_by, request_in, server_in, server_parked, sight_over, used_by_answers, used_with}
 use Rattle.px_chain.specs.Coming.{Came, allowed_by, came_in, finished_coming, goes_on_behind, sends_coming, streaming, streams_in}
 use Rattle.px_chain.specs.Stages.{At, Doing, Parked, Sent, Stage, all_sent, busy, coming_down, connection, given_body, given_head, going_up, idle, next, over, request_body, response_body, response_head, unparked, upgraded}
 use Rattle.px_chain.specs.Streams.{from_here}
@@ -96,20 +97,6 @@ abbrev pub parked_for : Place → Request → Option Parked → Option ℕ
 parked_for place request None = None
 parked_for place request (Some parked) = side_if (is_same_address parked.address (server_for place request)) parked.server
 
--- no byte came of a side, and it has not closed
-abbrev pub is_silent : List ℕ → Bool → Bool
-is_silent [] shut = not shut
-is_silent (byte ∷ more) shut = false
-
--- A side of which something was seen meets the whole request alone: so what came early on it meets the same, however the client's bytes are cut.
-abbrev pub is_unheard : Option ℕ → Sight → Bool
-is_unheard None seen = true
-is_unheard (Some server) seen = is_silent seen.server seen.shut
-
--- It is streamed, and its side is one of which nothing was seen, or is dialled for it.
-abbrev pub begins_going : Place → At → Flow → Option ℕ → Sight → Bool
-begins_going place at flow most seen = goes_up most seen && is_unheard (parked_for place flow.request at.parked) seen
-
 -- A request that goes on goes to the parked side, or its server is dialled.
 abbrev pub goes_on_by : Option ℕ → Place → At → Flow → Turn Stage Command
 goes_on_by None place at flow = record { owed = []; stage = busy at flow (connection all_sent) }
@@ -124,12 +111,12 @@ goes_up_by None place at flow = busy at flow (connection going_up)
 goes_up_by (Some server) place at flow = busy (unparked at) (reached place flow) (response_head server going_up)
 
 -- it is not kept any more
-abbrev pub pass_going : Bool → Place → At → Flow → Option ℕ → Stage
-pass_going true place at flow most = goes_up_by (parked_for place flow.request at.parked) place at (sending_on flow)
-pass_going false place at flow most = busy at flow (request_body None most)
+abbrev pub pass_going : Bool → Place → At → Flow → Option ℕ → Sight → Stage
+pass_going true place at flow most seen = goes_up_by (parked_for place flow.request (unspoilt_at at seen).parked) place at (sending_on flow)
+pass_going false place at flow most seen = busy at flow (request_body None most)
 
 abbrev pub pass_body : Place → At → Flow → Option Response → Option ℕ → Sight → Stage
-pass_body place at flow None most seen = pass_going (begins_going place at flow most seen) place at flow most
+pass_body place at flow None most seen = pass_going (goes_up most seen) place at flow most seen
 pass_body place at flow (Some response) most seen = pass_given at flow response most (request_in seen) seen.now
 
 abbrev pub turn_taken_body : Place → At → Flow → Taken Request → ℕ → Sight → Turn Stage Command
@@ -193,14 +180,21 @@ abbrev pub behind_flow : Bool → At → Stage
 behind_flow true at = next (record at { flow = at.flow + 1 })
 behind_flow false at = over
 
--- It is finished: its own server's side is closed, and a parked one where the conversation ends. That ends where its request is not whole.
-abbrev pub finish : At → Flow → Sent → Response → Used → Used → Bool → Turn Stage Command
-finish at flow sent response served parked closed =
+-- A flow is finished that used no side: a parked one is closed where the conversation ends.
+abbrev pub finish_given : At → Flow → Response → Used → Bool → Turn Stage Command
+finish_given at flow response parked closed =
+    let stays = connection_goes_on at.flow flow.request response in
+    record { owed = finished flow response NoServer ++ shut_unless stays parked closed; stage = behind_flow stays at }
+
+-- One is finished that used a side, which is kept or closed. The conversation ends where the request is not whole, and the side with it.
+abbrev pub finish : Place → At → Flow → Sent → Response → (keeps : Bool) → ℕ → Used → Bool → Turn Stage Command
+finish place at flow sent response keeps server used closed =
     let stays = is_sent sent && connection_goes_on at.flow flow.request response in
-    record { owed = finished flow response served ++ shut_unless stays parked closed; stage = behind_flow stays at }
+    let kept = stays && keeps in
+    record { owed = finished flow response (unless_kept kept used) ++ shut_unless stays NoServer closed; stage = behind_flow stays (parks kept place at flow.request server) }
 
 abbrev pub turn_taken_returned : At → Flow → Taken Response → ℕ → Used → Bool → Turn Stage Command
-turn_taken_returned at flow (GoesOn response) moment parked closed = finish at flow all_sent response NoServer parked closed
+turn_taken_returned at flow (GoesOn response) moment parked closed = finish_given at flow response parked closed
 turn_taken_returned at flow _ moment parked closed = killed flow moment parked closed
 
 -- a flow whose response is there
@@ -221,24 +215,24 @@ upgrade at flow response server = record {
   stage = busy at (record flow { response = Some response }) (upgraded server);
 }
 
-abbrev pub finish_by : Bool → At → Flow → Sent → Response → ℕ → Used → Bool → Turn Stage Command
-finish_by true at flow sent response server used closed = upgrade at flow response server
-finish_by false at flow sent response server used closed = finish (unparked at) flow sent response used NoServer closed
+abbrev pub finish_by : Bool → Place → At → Flow → Sent → Response → (keeps : Bool) → ℕ → Used → Bool → Turn Stage Command
+finish_by true place at flow sent response keeps server used closed = upgrade at flow response server
+finish_by false place at flow sent response keeps server used closed = finish place at flow sent response keeps server used closed
 
-abbrev pub turn_taken_whole : At → Flow → ℕ → Sent → Taken Response → ℕ → Used → Bool → Turn Stage Command
-turn_taken_whole at flow server sent (GoesOn response) moment used closed =
-    finish_by (is_sent sent && response.status == 101) at flow sent response server used closed
-turn_taken_whole at flow server sent _ moment used closed = killed flow moment used closed
+abbrev pub turn_taken_whole : Place → At → Flow → ℕ → Sent → (keeps : Bool) → Taken Response → ℕ → Used → Bool → Turn Stage Command
+turn_taken_whole place at flow server sent keeps (GoesOn response) moment used closed =
+    finish_by (is_sent sent && response.status == 101) place at flow sent response keeps server used closed
+turn_taken_whole place at flow server sent keeps _ moment used closed = killed flow moment used closed
 
-abbrev pub turn_read_whole : At → Flow → ℕ → Sent → Timed Reply → Used → Bool → Turn Stage Command
-turn_read_whole at flow server sent answer used closed = turn_response flow.response
+abbrev pub turn_read_whole : Place → At → Flow → ℕ → Sent → (keeps : Bool) → Timed Reply → Used → Bool → Turn Stage Command
+turn_read_whole place at flow server sent keeps answer used closed = turn_response flow.response
     (λ response. taken_at_response_body response answer.value)
-    (λ taken. turn_taken_whole at flow server sent taken answer.moment used closed)
+    (λ taken. turn_taken_whole place at flow server sent keeps taken answer.moment used closed)
 
-abbrev pub turn_returned : At → Flow → ℕ → Sent → Item ReadResponse → Sight → Timed Reply → Turn Stage Command
-turn_returned at flow server sent (complete head body trailers size) seen answer =
-    turn_read_whole at (with_returned flow body.content trailers seen.now) server sent answer (server_in server seen) seen.closed
-turn_returned at flow server sent _ seen answer = stops
+abbrev pub turn_returned : Place → At → Flow → ℕ → Sent → Item ReadResponse → Sight → Timed Reply → Turn Stage Command
+turn_returned place at flow server sent (complete head body trailers size) seen answer =
+    turn_read_whole place at (with_returned flow body.content trailers seen.now) server sent (keeps_side flow.request seen head) answer (server_in server seen) seen.closed
+turn_returned place at flow server sent _ seen answer = stops
 
 -- ---- a response that was given in place of the server's
 
@@ -332,13 +326,17 @@ sight_ended stage seen = seen
 -- ---- a response comes down
 
 -- Where it is whole its flow is finished without a question: what came of its request, its text, the flow, and the closes of its
--- server's side and, where its connection ends, of the client. That ends where the request is not whole.
+-- server's side, unless that is kept, and, where its connection ends, of the client. That ends where the request is not whole.
+abbrev pub keeps_came : At → Flow → Sent → Sight → Came → Bool
+keeps_came at flow sent seen came = (is_sent sent && goes_on_behind at.flow flow.request came) && keeps_side flow.request seen came.head
+
 abbrev pub pass_came : Place → At → Flow → ℕ → Sent → Sight → Option Came → Turn Stage Command
 pass_came place at flow server sent seen None = goes_to (busy at flow (coming_down server sent))
 pass_came place at flow server sent seen (Some came) =
-    let stays = is_sent sent && goes_on_behind at.flow flow.request came in record {
-      owed = sends_up place flow server sent seen ++ (finished_coming flow seen (server_in server seen) ++ shut_unless stays NoServer seen.closed);
-      stage = behind_flow stays (unparked at);
+    let stays = is_sent sent && goes_on_behind at.flow flow.request came in
+    let kept = keeps_came at flow sent seen came in record {
+      owed = sends_up place flow server sent seen ++ (finished_coming flow seen (unless_kept kept (server_in server seen)) ++ shut_unless stays NoServer seen.closed);
+      stage = behind_flow stays (parks kept place at flow.request server);
     }
 
 abbrev pub pass_down : Place → At → Flow → ℕ → Sent → Sight → Turn Stage Command
@@ -358,20 +356,25 @@ abbrev pub come_down : Terms → Stage → Sight → Turn Stage Command
 come_down terms (busy at flow doing) seen = comes terms.place at flow doing seen
 come_down terms stage seen = goes_to stage
 
--- of a server's side that is closed nothing counts any more
-abbrev pub used_by_came : Option Came → UsedBytes → UsedBytes
-used_by_came None used = used
-used_by_came (Some came) used = record used { server = 0 }
+-- of a server's side that is kept the responses are used, and of one that is closed nothing counts any more
+abbrev pub used_if : Bool → Flow → Sight → UsedBytes → UsedBytes
+used_if true flow seen used = record used { server = used_by_answers (answers_in flow.request seen) used.server }
+used_if false flow seen used = record used { server = 0 }
 
-abbrev pub used_by_kept : Bool → Option Came → UsedBytes → UsedBytes
-used_by_kept true came used = used_by_came came used
-used_by_kept false came used = used
+abbrev pub used_by_came : At → Flow → Sent → Sight → Option Came → UsedBytes → UsedBytes
+used_by_came at flow sent seen None used = used
+used_by_came at flow sent seen (Some came) used = used_if (keeps_came at flow sent seen came) flow seen used
+
+abbrev pub used_by_kept : Bool → At → Flow → Sent → Sight → Option Came → UsedBytes → UsedBytes
+used_by_kept true at flow sent seen came used = used_by_came at flow sent seen came used
+used_by_kept false at flow sent seen came used = used
 
 abbrev pub used_by_coming : Stage → Sight → UsedBytes → UsedBytes
-used_by_coming (busy at flow (response_body server sent most)) seen used = used_by_kept (streams_in flow most seen) (came_in (streaming flow) seen) used
-used_by_coming (busy at flow (coming_down server sent)) seen used = used_by_came (came_in flow seen) used
+used_by_coming (busy at flow (response_body server sent most)) seen used = used_by_kept (streams_in flow most seen) at (streaming flow) sent seen (came_in (streaming flow) seen) used
+used_by_coming (busy at flow (coming_down server sent)) seen used = used_by_came at flow sent seen (came_in flow seen) used
 used_by_coming stage seen used = used
 
+-- a side that is kept is silent
 abbrev pub past_came : Option Came → Sight → Sight
 past_came None seen = seen
 past_came (Some came) seen = record seen { server = []; shut = false }
@@ -441,10 +444,14 @@ finds place at flow (upgraded server) seen = Ends []
 finds place at flow given_head seen = Asks (ask_of (given_at flow seen.now) ResponseHead)
 finds place at flow given_body seen = Asks (ask_of flow ResponseBody)
 
+abbrev pub find_unspoilt : Terms → Stage → Sight → Look Command
+find_unspoilt terms (idle at) seen = look_head terms at.flow (request_in seen) seen.now (server_parked at.parked seen) seen.closed
+find_unspoilt terms (busy at flow doing) seen = finds terms.place at flow doing seen
+find_unspoilt terms _ seen = Ends []
+
+-- a parked side whose keeping has ended counts for nothing
 abbrev pub find : Terms → Stage → Sight → Look Command
-find terms (idle at) seen = look_head terms at.flow (request_in seen) seen.now (server_parked at.parked seen) seen.closed
-find terms (busy at flow doing) seen = finds terms.place at flow doing seen
-find terms _ seen = Ends []
+find terms stage seen = find_unspoilt terms (unspoilt stage seen) seen
 
 -- ---- what is owed where the client leaves
 
@@ -461,9 +468,10 @@ leaving (busy at flow doing) seen = leaves at flow doing seen
 leaving _ seen = []
 
 abbrev pub look : Terms → Stage → Sight → Look Command
-look terms stage seen = or_leaves seen.closed (leaving stage seen) (find terms stage seen)
+look terms stage seen = or_leaves seen.closed (leaving (unspoilt stage seen) seen) (find terms stage seen)
 
--- ---- what it owes while it waits: the interim responses that have come, and what came of a request or a response that is streamed
+-- ---- what it owes while it waits: the close of a parked side of which a byte came, the interim responses that have come, and what came of a
+-- request or a response that is streamed
 
 abbrev pub waits : Place → Flow → Doing → Sight → List Command
 waits place flow (response_head server sent) seen = sends_up place flow server sent seen ++ interim_commands flow.request (answers_in flow.request seen).interim
@@ -471,9 +479,12 @@ waits place flow (response_body server sent most) seen = sends_up place flow ser
 waits place flow (coming_down server sent) seen = sends_up place flow server sent seen ++ sends_coming flow seen
 waits place flow _ seen = []
 
+abbrev pub waits_at : Terms → Stage → Sight → List Command
+waits_at terms (busy at flow doing) seen = waits terms.place flow doing seen
+waits_at terms _ seen = []
+
 abbrev pub so_far : Terms → Stage → Sight → List Command
-so_far terms (busy at flow doing) seen = waits terms.place flow doing seen
-so_far terms _ seen = []
+so_far terms stage seen = strays stage seen ++ waits_at terms stage seen
 
 -- ---- what it owes behind its ask: a dial closes the parked side, which no flow takes any more
 
@@ -481,9 +492,12 @@ abbrev pub parts : At → Doing → Sight → List Command
 parts at (connection sent) seen = shut_server (server_parked at.parked seen)
 parts at _ seen = []
 
+abbrev pub behind_unspoilt : Stage → Sight → List Command
+behind_unspoilt (busy at flow doing) seen = parts at doing seen
+behind_unspoilt _ seen = []
+
 abbrev pub behind : Stage → Sight → List Command
-behind (busy at flow doing) seen = parts at doing seen
-behind _ seen = []
+behind stage seen = behind_unspoilt (unspoilt stage seen) seen
 
 -- ---- what a reply brings
 
@@ -491,16 +505,20 @@ abbrev pub turns : Terms → At → Flow → Doing → Sight → Timed Reply →
 turns terms at flow (request_body given most) seen answer = turn_body terms.place at flow (request_in seen) seen answer
 turns terms at flow (connection sent) seen answer = turn_dial terms.place at flow sent answer seen.closed
 turns terms at flow (response_head server sent) seen answer = turn_answer terms at flow server sent (answers_in flow.request seen).final seen answer
-turns terms at flow (response_body server sent most) seen answer = turn_returned at flow server sent (answers_in flow.request seen).final seen answer
+turns terms at flow (response_body server sent most) seen answer = turn_returned terms.place at flow server sent (answers_in flow.request seen).final seen answer
 turns terms at flow (coming_down server sent) seen answer = stops
 turns terms at flow (upgraded server) seen answer = stops
 turns terms at flow given_head seen answer = turn_given_head at (given_at flow seen.now) answer (server_parked at.parked seen) seen.closed
 turns terms at flow given_body seen answer = turn_whole_answer at flow answer (server_parked at.parked seen) seen.closed
 
+abbrev pub turn_unspoilt : Terms → Stage → Sight → Timed Reply → Turn Stage Command
+turn_unspoilt terms (idle at) seen answer = turn_head terms at (request_in seen) seen answer
+turn_unspoilt terms (busy at flow doing) seen answer = turns terms at flow doing seen answer
+turn_unspoilt terms stage seen answer = record { owed = []; stage = stage }
+
+-- a parked side whose keeping has ended is forgotten
 abbrev pub turn : Terms → Stage → Sight → Timed Reply → Turn Stage Command
-turn terms (idle at) seen answer = turn_head terms at (request_in seen) seen answer
-turn terms (busy at flow doing) seen answer = turns terms at flow doing seen answer
-turn terms stage seen answer = record { owed = []; stage = stage }
+turn terms stage seen answer = turn_unspoilt terms (unspoilt stage seen) seen answer
 
 -- where a finished flow leads: alone it is the end, in sequence the next flow begins
 abbrev pub alone : Stage → Stage

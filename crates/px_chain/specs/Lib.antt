@@ -2,6 +2,7 @@ pub mod Behind
 pub mod Chain
 pub mod Coming
 pub mod Going
+pub mod Keeping
 pub mod Left
 pub mod ReadBack
 pub mod Sent

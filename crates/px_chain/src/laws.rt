@@ -1,5 +1,5 @@
 //! Laws of the chain of a conversation, each the contract of a function that does nothing.
-ghost use Rattle.std.specs.Prelude.{◌≡◌, ◌≤◌, ◌+◌, ◌&&◌, ◌++◌, ◌∷◌, [], ℕ, List, length, Option, Some, true, false};
+ghost use Rattle.std.specs.Prelude.{◌≡◌, ◌≤◌, ◌+◌, ◌++◌, ◌∷◌, [], ℕ, List, length, Option, Some, true, false};
 ghost use Rattle.px_event.specs.Chain.{Asks, Ends, Timed};
 ghost use Rattle.px_event.specs.Laws.{Settles, SoFarGrows};
 ghost use Rattle.px_event.specs.Layer.{Move};
@@ -30,11 +30,12 @@ ghost use Rattle.px_exchange.specs.declared.taken.Taken.TheVariants.{GoesOn};
 ghost use Rattle.px_parts.specs.Texts.{left_of};
 ghost use Rattle.px_write.specs.Error.{error_text, fault_message};
 ghost use Rattle.px_write.specs.ReadBack.{read_request_head};
-ghost use Rattle.px_chain.specs.Chain.{Connect, IsOnward, begin, behind, connect_in, find, goes_to, goes_up_by, going_at, gone, http_chain, is_unheard, look, parked_for, pass, sight_past, so_far, turn};
+ghost use Rattle.px_chain.specs.Chain.{Connect, IsOnward, begin, behind, connect_in, find, goes_to, goes_up_by, going_at, gone, http_chain, look, parked_for, pass, sight_past, so_far, turn};
 ghost use Rattle.px_chain.specs.Going.{framed_up, goes_up, going_text, is_going_up, sending_on, whole_in, with_whole};
-ghost use Rattle.px_chain.specs.Sent.{IsSentOnce};
+ghost use Rattle.px_chain.specs.Keeping.{unspoilt_at};
+ghost use Rattle.px_chain.specs.Sent.{IsSentInTurn, IsSentOnce};
 ghost use Rattle.px_chain.specs.Sights.{Sight, answers_in, left_by, request_in, server_in};
-ghost use Rattle.px_chain.specs.Silent.{NoAnswer, ParkedBelow, connections};
+ghost use Rattle.px_chain.specs.Silent.{NoAnswer, ParkedBelow, SaysNothing, connections};
 ghost use Rattle.px_chain.specs.Coming.{Came, came_in, coming_text, framed_as, streaming, streams_in};
 ghost use Rattle.px_chain.specs.ReadBack.{MayGoUp, MayPass, ReadsAs};
 ghost use Rattle.px_chain.specs.Stages.{At, Doing, Sent, Stage, all_sent, busy, coming_down, going_up, idle, next, over, request_body, response_body, response_head};
@@ -62,12 +63,18 @@ pub fn servers_hear_nothing_early()
     ensures before_all { (onward : Stage → Stage) (made : Made) (at : At) → IsOnward onward → due_by (http_chain onward made) (begin (idle at)) [] ≡ [] }
 {}
 
-/// Each server is sent the text of one request at most. One that was connected before the conversation began is that of its parked side,
-/// and the request is one that goes there.
+/// A server of which nothing was heard is sent the text of one request at most. One that was connected before the conversation began is that of its
+/// parked side, and the request is one that goes there.
 pub fn a_server_is_sent_one_request()
-    ensures { (onward : Stage → Stage) (made : Made) (at : At) (server : ℕ) (moves : List Move) → IsOnward onward → ParkedBelow at.parked at.dials →
+    ensures { (onward : Stage → Stage) (made : Made) (at : At) (server : ℕ) (moves : List Move) → IsOnward onward → ParkedBelow at.parked at.dials → SaysNothing server moves →
         IsSentOnce made.place at.parked at.dials server
         (bytes_in (seen_of (line (TheServer server)) (due_by (http_chain onward made) (begin (idle at)) moves))) }
+{}
+
+/// Each server is sent the texts of whole requests, one behind the other, and at the end at most one that is streamed and did not come whole.
+pub fn a_server_is_sent_requests_in_turn()
+    ensures { (onward : Stage → Stage) (made : Made) (at : At) (server : ℕ) (moves : List Move) → IsOnward onward → ParkedBelow at.parked at.dials →
+        IsSentInTurn made.place (bytes_in (seen_of (line (TheServer server)) (due_by (http_chain onward made) (begin (idle at)) moves))) }
 {}
 
 /// Where a request is awaited, the end is found with nothing owed exactly where a CONNECT stands that asks for a tunnel here, and then it is
@@ -89,19 +96,17 @@ pub fn bytes_come_before_ends()
 {}
 
 /// A request that is streamed is sent as it comes: what its stage owes its server, where it passes and while it waits, is its text as far as it
-/// came, behind what earlier asks owed of that, and nothing else (`sent`). It is streamed from where the bytes that came say so, unless it would go to a
-/// parked side of which something was seen by then; until then, and there, it is kept (`streams`, `keeps`). The hook of its body is not asked (`asks`).
+/// came, behind what earlier asks owed of that, and nothing else (`sent`). It is streamed from where the bytes that came say so, to a parked
+/// side whose keeping has not ended by then, or its server is dialled; until then it is kept (`streams`, `keeps`). The hook of its body is not asked (`asks`).
 pub fn a_streamed_request_is_sent_as_it_comes()
     ensures sent { (made : Made) (at : At) (flow : Flow) (doing : Doing) (server : ℕ) (seen : Sight) → going_at doing ≡ Some server →
         let on = pass made (busy at flow doing) seen in
         bytes_in (seen_of (line (TheServer server)) (on.owed ++ so_far made on.stage (sight_past made (busy at flow doing) seen)))
         ≡ left_of seen.told (going_text made.place flow seen) }
     ensures streams { (made : Made) (at : At) (flow : Flow) (most : Option ℕ) (seen : Sight) → goes_up most seen ≡ true →
-        is_unheard (parked_for made.place flow.request at.parked) seen ≡ true →
         pass made (busy at flow (request_body None most)) seen
-        ≡ pass made (goes_up_by (parked_for made.place flow.request at.parked) made.place at (sending_on flow)) seen }
-    ensures keeps { (made : Made) (at : At) (flow : Flow) (most : Option ℕ) (seen : Sight) →
-        (goes_up most seen && is_unheard (parked_for made.place flow.request at.parked) seen) ≡ false →
+        ≡ pass made (goes_up_by (parked_for made.place flow.request (unspoilt_at at seen).parked) made.place at (sending_on flow)) seen }
+    ensures keeps { (made : Made) (at : At) (flow : Flow) (most : Option ℕ) (seen : Sight) → goes_up most seen ≡ false →
         pass made (busy at flow (request_body None most)) seen ≡ goes_to (busy at flow (request_body None most)) }
     ensures asks { (made : Made) (at : At) (flow asked : Flow) (doing : Doing) (seen : Sight) → is_going_up doing ≡ true →
         look made (busy at flow doing) seen ≡ Asks (ask_of asked RequestBody) → ⊥ }

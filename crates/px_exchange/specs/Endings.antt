@@ -2,7 +2,7 @@
 use Rattle.std.specs.Prelude.{ℕ, ◌+◌, Bool, true, false, ◌&&◌, not, if◌then◌else◌, nat_lt, List, [], ◌∷◌, ◌++◌, codes, Some, None, Result, Ok}
 use Rattle.px_message.specs.Fields.{has_element}
 use Rattle.px_message.specs.Length.{response_length, stands, transfer_encoding}
-use Rattle.px_message.specs.Settle.{settled_response}
+use Rattle.px_message.specs.Settle.{settled_request, settled_response}
 use Rattle.px_message.specs.declared.fault.Fault.{Fault}
 use Rattle.px_message.specs.declared.flow.Flow.{Flow}
 use Rattle.px_message.specs.declared.length.Length.{Length}
@@ -14,6 +14,7 @@ use Rattle.px_message.specs.declared.version.Version.TheVariants.{Http10, Http11
 use Rattle.px_event.specs.declared.command.Command.{Command}
 use Rattle.px_event.specs.declared.command.Command.TheVariants as commands
 use Rattle.px_event.specs.declared.side.Side.TheVariants.{Client, Server}
+use Rattle.px_read.specs.declared.head.ResponseHead.{ResponseHead as ReadResponse}
 use Rattle.px_write.specs.Error.{error_text, fault_message}
 use Rattle.px_exchange.specs.declared.ending.Used.{Used}
 use Rattle.px_exchange.specs.declared.ending.Used.TheVariants.{NoServer, ByServer}
@@ -99,6 +100,26 @@ goes_on_behind index request response sent =
 -- that is sent whole
 abbrev pub connection_goes_on : ℕ → Request → Response → Bool
 connection_goes_on index request response = goes_on_behind index request response (settled_response (is_head request.method) response)
+
+-- ---- whether a server's side may be kept behind a flow (RFC 9112 section 9.3)
+
+-- The request persists, as it was sent. One of version 1.0 in chunks does not; and of one that was streamed nothing is known any more of how it was framed.
+abbrev pub persists_settled : Version → Request → Bool
+persists_settled Http11 request = persists Http11 (settled_request request).fields
+persists_settled Http10 request = not request.streamed && persists Http10 (settled_request request).fields
+
+abbrev pub sent_persists : Request → Bool
+sent_persists request = persists_settled request.version request
+
+-- and the response, as it was read, which does not run to the close
+abbrev pub read_persists : Request → ReadResponse → Bool
+read_persists request head =
+    persists head.version head.fields && not (is_to_close (response_length head.code (is_head request.method) head.fields))
+
+-- a side that is kept is not closed
+abbrev pub unless_kept : Bool → Used → Used
+unless_kept true used = NoServer
+unless_kept false used = used
 
 -- ---- a flow that is finished: its text, the flow, the close of its server's side, and the client's where it ends there
 

@@ -1,9 +1,9 @@
 //! How flows and conversations end: the bytes, the finished flow and the closes, in this order.
-ghost use Rattle.std.specs.Prelude.{◌≡◌, ◌++◌, OnOk, IfOk};
-ghost use Rattle.px_message.specs.Length.{stands as has_field, transfer_encoding};
-ghost use Rattle.px_message.specs.Settle.{settled_response};
+ghost use Rattle.std.specs.Prelude.{◌≡◌, ◌++◌, ◌&&◌, OnOk, IfOk};
+ghost use Rattle.px_message.specs.Length.{response_length, stands as has_field, transfer_encoding};
+ghost use Rattle.px_message.specs.Settle.{settled_request, settled_response};
 ghost use Rattle.px_write.specs.Error.{error_text as fault_text};
-ghost use Rattle.px_exchange.specs.Endings.{connection_goes_on, ends_by_fault, ends_early, finished, finished_streamed, goes_on_behind, persists, refuses, runs_to_close, shut_all, shut_client, shut_server, shut_unless};
+ghost use Rattle.px_exchange.specs.Endings.{connection_goes_on, ends_by_fault, ends_early, finished, finished_streamed, goes_on_behind, is_to_close, persists, persists_settled, read_persists, refuses, runs_to_close, sent_persists, shut_all, shut_client, shut_server, shut_unless, unless_kept};
 ghost use Rattle.px_exchange.specs.Requests.{is_head as asks_head};
 ghost use Rattle.px_exchange.specs.declared.ending.Used.TheVariants.{NoServer};
 
@@ -16,8 +16,9 @@ use crate::texts::returned_text;
 use px_event::{Command, Side};
 use px_message::{
     Fault, Fields, Flow, Length, Request, Response, Shared, Version, length_of_response,
-    settle_response,
+    settle_request, settle_response,
 };
+use px_read::ResponseHead;
 use px_text::{Bytes, NoMemory};
 use px_write::{error_text, fault_message};
 use std::alloc::Global;
@@ -147,10 +148,49 @@ fn is_coded(fields: &Fields) -> bool
 fn runs_to_close(sent: &Response, asked_head: bool) -> bool
     ensures { result ≡ runs_to_close sent.now asked_head }
 {
-    match length_of_response(sent.status.code(), asked_head, &sent.fields) {
+    is_to_close(sent.status.code(), asked_head, &sent.fields)
+}
+
+// Whether a response of this code runs to the close.
+fn is_to_close(code: u16, asked_head: bool, fields: &Fields) -> bool
+    ensures { result ≡ is_to_close (response_length code asked_head fields.now) }
+{
+    match length_of_response(code, asked_head, fields) {
         Ok(Length::ToClose) => true,
         _ => false,
     }
+}
+
+/// Whether a request persists as it is sent (RFC 9112 section 9.3): its server's side may be kept behind it.
+pub fn sent_persists(request: &Request) -> Result<bool, NoMemory>
+    ensures { IfOk result (λ persists. persists ≡ sent_persists request.now) }
+{
+    match request.version {
+        Version::Http11 => persists_settled(request),
+        Version::Http10 => {
+            if request.streamed {
+                return Ok(false);
+            }
+            persists_settled(request)
+        }
+    }
+}
+
+fn persists_settled(request: &Request) -> Result<bool, NoMemory>
+    ensures { IfOk result (λ is_so. is_so ≡ persists request.now.version (settled_request request.now).fields) }
+{
+    let mut sent = request.try_clone()?;
+    settle_request(&mut sent)?;
+    Ok(persists(sent.version, &sent.fields))
+}
+
+/// Whether a response persists as its head was read, and does not run to the close (RFC 9112 section 9.3): its server's side may be kept behind it.
+pub fn read_persists(request: &Request, head: &ResponseHead) -> bool
+    ensures { result ≡ read_persists request.now head.now }
+{
+    let persists = persists(head.version, &head.fields);
+    let to_close = is_to_close(head.code, is_head(request.method.bytes()), &head.fields);
+    persists && !to_close
 }
 
 /// The response as it is sent: its framing made true to its body.
@@ -194,22 +234,31 @@ fn finish_flow(
     shut_server(used, out)
 }
 
-/// Finishes the flow with this response: its text, the flow, the close of its server's side, and, where the client's connection ends
-/// there, the closes of the side that is parked, if one is, and of the client. Whether it goes on.
+// No side, where it is kept.
+fn unless_kept(kept: bool, used: Used) -> Used
+    ensures { result ≡ unless_kept kept used }
+{
+    if kept { Used::NoServer } else { used }
+}
+
+/// Finishes the flow with this response: its text, the flow, the close of its server's side, unless `keeps` says that it is kept where the client's connection goes on,
+/// and, where that ends there, the closes of the side that is parked, if one is, and of the client. Whether it goes on.
 pub fn finish(
     now: Now,
     index: u32,
     flow: Boxed<Flow>,
     response: Shared<Response>,
     used: Used,
+    keeps: bool,
     parked: Used,
     out: &mut Vec<Command>,
 ) -> Result<bool, NoMemory>
     ensures stays { IfOk result (λ stays. stays ≡ connection_goes_on index flow.request response) }
-    ensures gives { OnOk result (out.new.items ≡ out.old.items ++ finished flow response used ++ shut_unless (connection_goes_on index flow.request response) parked now.client_closed) }
+    ensures gives { OnOk result (out.new.items ≡ out.old.items ++ finished flow response (unless_kept (connection_goes_on index flow.request response && keeps) used) ++ shut_unless (connection_goes_on index flow.request response) parked now.client_closed) }
 {
     let sent = settled(flow.request.get(), response.get())?;
     let stays = goes_on_behind(index, flow.request.get(), response.get(), &sent);
+    let used = unless_kept(stays && keeps, used);
     finish_flow(now, flow, response, &sent, used, out)?;
     if stays {
         return Ok(true);
@@ -219,7 +268,7 @@ pub fn finish(
 }
 
 /// Finishes a flow whose response was sent on as it came, as `sent` says: the flow with the end of its response, the close of its
-/// server's side, and, where the client's connection ends there, the close of the client. Whether it goes on.
+/// server's side, unless `keeps` says that it is kept where the client's connection goes on, and, where that ends there, the close of the client. Whether it goes on.
 pub fn finish_streamed(
     now: Now,
     index: u32,
@@ -227,12 +276,14 @@ pub fn finish_streamed(
     response: &Response,
     sent: &Response,
     used: Used,
+    keeps: bool,
     out: &mut Vec<Command>,
 ) -> Result<bool, NoMemory>
     ensures stays { IfOk result (λ stays. stays ≡ goes_on_behind index flow.request response.now sent.now) }
-    ensures gives { OnOk result (out.new.items ≡ out.old.items ++ finished_streamed flow now.moment used ++ shut_unless (goes_on_behind index flow.request response.now sent.now) NoServer now.client_closed) }
+    ensures gives { OnOk result (out.new.items ≡ out.old.items ++ finished_streamed flow now.moment (unless_kept (goes_on_behind index flow.request response.now sent.now && keeps) used) ++ shut_unless (goes_on_behind index flow.request response.now sent.now) NoServer now.client_closed) }
 {
     let stays = goes_on_behind(index, flow.request.get(), response, sent);
+    let used = unless_kept(stays && keeps, used);
     done(with_end(flow, now.moment).into_inner(), out)?;
     shut_server(used, out)?;
     if stays {

@@ -5,7 +5,7 @@ pub returns-clause-sent : goal.returns-clause-sent
 returns-clause-sent c = λ made at flow doing server seen is. goes_as_it_comes made at flow doing server seen is
 
 pub returns-clause-streams : goal.returns-clause-streams
-returns-clause-streams c = λ made at flow most seen is unheard. goes_up_here made at flow most seen is unheard
+returns-clause-streams c = λ made at flow most seen is. goes_up_here made at flow most seen is
 
 pub returns-clause-keeps : goal.returns-clause-keeps
 returns-clause-keeps c = λ made at flow most seen is. stays_here made at flow most seen is

@@ -1,4 +1,4 @@
-use Rattle.px_chain.proofs.SilentLemmas.{nothing_yet, silent_from, silent_with}
+use Rattle.px_chain.proofs.BelowLemmas.{nothing_yet, silent_from, silent_with}
 use Rattle.px_chain.proofs.laws.servers_hear_nothing_early.Goals as goal
 
 pub returns-clause-silent : goal.returns-clause-silent
