@@ -18,17 +18,19 @@ use Rattle.px_chain.specs.Streams.{client_closed, now_over}
 use Rattle.px_chain.proofs.ChainLaws.{open_still}
 use Rattle.px_chain.proofs.FrontLaws.{now_here}
 use Rattle.px_chain.proofs.SightLaws.{IsSideFrom, onward_from, sight_turned, side_onward}
-use Rattle.px_cuts.specs.Alike.{HeardEarly, MayBeCut, MayWait, PlacesAlike, for_nothing, on_from}
+use Rattle.px_cuts.specs.Alike.{HeardEarly, MayBeFollowed, MayWait, PlacesAlike, for_nothing, on_from}
+use Rattle.px_cuts.proofs.FollowLaws.{followed_passed, followed_retimed, followed_turned}
 use Rattle.px_cuts.specs.Cuts.{AlikeSeen, IsDialled, MayBeHeard, MayWaitFor, retimed, MayStand}
 use Rattle.px_cuts.specs.Shown.{hears, look_over, moment_at, passed_over, retimed_stage, shown_over, shown_sight}
-use Rattle.px_cuts.proofs.PlaceLaws.{behind_late, behind_retimed, cut_on, hears_behind, may_more, may_passed, may_turned, moment_alike, moment_led, now_at, onward_leads, passed_leads, passed_shown, passed_stage, retimed_on, shown_more, side_retimed, sight_on}
+use Rattle.px_cuts.proofs.PlaceLaws.{behind_late, behind_retimed, hears_behind, may_more, may_passed, may_turned, moment_alike, moment_led, now_at, onward_leads, passed_leads, passed_shown, passed_stage, retimed_on, shown_more, side_retimed, sight_on}
 use Rattle.px_cuts.proofs.ShownLaws.{behind_shown, look_shown, pass_shown, retimed_look, retimed_reply, retimed_turn, so_far_shown, turn_shown}
-use Rattle.px_cuts.proofs.StayLaws.{FindsAlike, ReadersStay, finds_alike, leaves_more}
+use Rattle.px_cuts.proofs.ItemLaws.{ReadersStay}
+use Rattle.px_cuts.proofs.StayLaws.{FindsAlike, finds_alike, leaves_more}
 use Rattle.px_cuts.proofs.PassLaws.{PassesWith, passes_with}
-use Rattle.px_cuts.proofs.NextLaws.{beside_on, beside_passed, beside_retimed, beside_turned, cut_retimed}
+use Rattle.px_cuts.proofs.NextLaws.{beside_on, beside_passed, beside_retimed, beside_turned}
 use Rattle.std.proofs.lemmas.List.{map-append}
 use Rattle.px_cuts.proofs.QuietLaws.{none_retimed}
-use Rattle.px_cuts.proofs.WorkLaws.{MayWork, begins_not, may_cut, works}
+use Rattle.px_cuts.proofs.WorkLaws.{MayWork, begins_not, may_follow, works}
 
 -- two changed at once
 both : {A B C : Type 0} (f : A → B → C) (a a' : A) (b b' : B) → a ≡ a' → b ≡ b' → f a b ≡ f a' b'
@@ -185,14 +187,15 @@ module _ (see : ℕ → ℕ) where
     heard_on Client s t on is = tt
     heard_on (Server server) s t on is = on server is
 
-    -- where something is found, it may wait from there on
-    waits_on : (side : Side) (s : Standing) (f : List (Timed Event)) → MayWait see onward terms side s f → IsFound (look_over terms (passed_over onward terms s f) f) → MayBeCut terms side s.stage
-    waits_on side s f (on_from cuts) found = cuts
+    -- where something is found, it may follow what is seen there
+    waits_on : (side : Side) (s : Standing) (f : List (Timed Event)) → MayWait see onward terms side s f → IsFound (look_over terms (passed_over onward terms s f) f) →
+        MayBeFollowed side s.stage (shown s f)
+    waits_on side s f (on_from follows) found = follows
     waits_on side s f (for_nothing nothing none) found = absurd (nothing found)
 
-    waits_work : (side : Side) (s : Standing) (f : List (Timed Event)) → MayWait see onward terms side s f → MayWork terms side (retimed_stage see s.stage) (shown s f)
-    waits_work side s f (on_from cuts) = may_cut (cut_retimed see terms side s.stage cuts)
-    waits_work side s f (for_nothing nothing none) = begins_not (none_retimed terms.place see s.stage (shown s f) none)
+    waits_work : (side : Side) (s : Standing) (f : List (Timed Event)) → MayWait see onward terms side s f → MayWork side (retimed_stage see s.stage) (shown s f)
+    waits_work side s f (on_from follows) = may_follow (followed_retimed see side s.stage (shown s f) follows)
+    waits_work side s f (for_nothing nothing none) = begins_not (none_retimed see s.stage (shown s f) none)
 
     module _ (readers : ReadersStay) (event : Stamped Event) where
       -- by the side of the stage seen so
@@ -226,7 +229,7 @@ module _ (see : ℕ → ℕ) where
       early_pass last s f t g place is =
           let P : Look Command → Type 0 = IsFound in
           passes_with terms readers place.side place.bytes onward goes (retimed_stage see s.stage) (shown s f) place.open_client
-          (cut_retimed see terms place.side s.stage (waits_on place.side s f place.waits is)) (beside_retimed see place.side s.stage (shown s f) place.beside)
+          (followed_retimed see place.side s.stage (shown s f) (waits_on place.side s f place.waits is)) (beside_retimed see place.side s.stage (shown s f) place.beside)
           (subst P (passed_finds s f) (is_found_seen (look_over terms (passed_over onward terms s f) f) is))
 
       early_passes : (last : Stamp) (s : Standing) (f : List (Timed Event)) (t : Standing) (g : List (Timed Event)) → HeardEarly see onward terms event last s f t g →
@@ -239,7 +242,7 @@ module _ (see : ℕ → ℕ) where
           let more : Sight = hears (side_of stage) (shown s f) piece in
           let first : Stage = onward (pass terms stage (shown s f)).stage in
           let same = early_pass last s f t g place is in
-          let cuts = waits_on place.side s f place.waits is in
+          let follows = waits_on place.side s f place.waits is in
           let turned : retimed_turn see (pass terms s.stage v) ≡ retimed_turn see (pass terms t.stage (sight_over t g)) =
           pass_shown see terms s.stage v
           ∙ (sym same.stays
@@ -260,25 +263,27 @@ module _ (see : ℕ → ℕ) where
               open_client = place.open_client;
               comes = moment_led see onward goes terms s.stage v (later last event.stamp).moment (now_over s.since f) place.comes;
               heard = λ again. heard_on place.side s.stage (onward (pass terms s.stage v).stage) (passed_leads terms onward goes s.stage v).dialled (place.heard is);
-              beside = beside_passed see terms onward goes place.side s f cuts place.beside;
-              waits = on_from (cut_on terms place.side s.stage (onward (pass terms s.stage v).stage) (passed_leads terms onward goes s.stage v) cuts);
+              beside = beside_passed see terms onward goes place.side s f follows place.beside;
+              waits = on_from (followed_passed see terms onward goes place.side s f follows);
               may = may_passed terms onward goes s f place.may;
               other_may = may_passed terms onward goes t g place.other_may;
             };
           }
 
-      finds : (last : Stamp) (s : Standing) (f : List (Timed Event)) (t : Standing) (g : List (Timed Event)) (place : HeardEarly see onward terms event last s f t g) → IsFound (look_over terms s f) →
+      finds : (last : Stamp) (s : Standing) (f : List (Timed Event)) (t : Standing) (g : List (Timed Event)) (place : HeardEarly see onward terms event last s f t g) → IsSettled chain s f → IsFound (look_over terms s f) →
           FindsAlike terms (retimed_stage see s.stage) (shown s f) (hears (side_of (retimed_stage see s.stage)) (shown s f) (events.Piece place.side place.bytes))
-      finds last s f t g place is =
+      finds last s f t g place settled is =
           let P : Look Command → Type 0 = IsFound in
-          finds_alike terms readers place.side place.bytes (retimed_stage see s.stage) (shown s f) place.open_client
+          let Q : Standing → Type 0 = λ x. IsFound (look_over terms x f) in
+          let follows = waits_on place.side s f place.waits (subst Q (sym settled.stays) is) in
+          finds_alike terms readers place.side place.bytes (retimed_stage see s.stage) (shown s f) place.open_client (followed_retimed see place.side s.stage (shown s f) follows)
           (beside_retimed see place.side s.stage (shown s f) place.beside)
           (subst P (look_shown see terms s.stage (sight_over s f)) (is_found_seen (look_over terms s f) is))
 
-      early_owes : (last : Stamp) (s : Standing) (f : List (Timed Event)) (t : Standing) (g : List (Timed Event)) → HeardEarly see onward terms event last s f t g → IsFound (look_over terms s f) →
+      early_owes : (last : Stamp) (s : Standing) (f : List (Timed Event)) (t : Standing) (g : List (Timed Event)) → HeardEarly see onward terms event last s f t g → IsSettled chain s f → IsFound (look_over terms s f) →
           OwesAlike chain (AlikeSeen see) s f t g
-      early_owes last s f t g place is =
-          let same = finds last s f t g place is in
+      early_owes last s f t g place settled is =
+          let same = finds last s f t g place settled is in
           let stage : Stage = retimed_stage see s.stage in
           let more : Sight = hears (side_of stage) (shown s f) (events.Piece place.side place.bytes) in
           record {
@@ -301,11 +306,11 @@ module _ (see : ℕ → ℕ) where
           let stage : Stage = retimed_stage see s.stage in
           let more : Sight = hears (side_of stage) (shown s f) piece in
           let there = subst P (sym is) tt in
-          let same = finds last s f t g place there in
+          let same = finds last s f t g place settled there in
           let Q : Standing → Type 0 = λ x. IsFound (look_over terms x f) in
           let found = subst Q (sym settled.stays) there in
           let heard : MayBeHeard place.side s.stage = place.heard found in
-          let cuts = waits_on place.side s f place.waits found in
+          let follows = waits_on place.side s f place.waits found in
           let turned : retimed_turn see (turn terms s.stage (sight_over s f) answer) ≡ retimed_turn see (turn terms t.stage (sight_over t g) answer) =
           turn_shown see terms s.stage (sight_over s f) answer
           ∙ (sym (same.turn (retimed_reply see answer))
@@ -332,7 +337,7 @@ module _ (see : ℕ → ℕ) where
               comes = moment_alike see s' s' (later reply.stamp event.stamp).moment answer.moment refl waits ∙ sym (ap (λ n. moment_at see s' n) (now_here answer.moment f));
               heard = λ again. heard_on place.side s.stage s' (onward_leads terms onward goes s.stage (sight_over s f) answer).dialled heard;
               beside = beside_turned see terms onward goes place.side s f answer ask place.open_client place.beside heard is;
-              waits = on_from (cut_on terms place.side s.stage s' (onward_leads terms onward goes s.stage (sight_over s f) answer) cuts);
+              waits = on_from (followed_turned see terms onward goes place.side s f answer follows heard);
               may = may_turned terms onward goes s f answer place.may;
               other_may = may_turned terms onward goes t g answer place.other_may;
             };
@@ -386,7 +391,7 @@ module _ (see : ℕ → ℕ) where
       pub unhurried : Unhurried chain (AlikeSeen see) (PlacesAlike see terms) (MayWaitFor see event) event (HeardEarly see onward terms event)
       unhurried = record {
         passes = λ last s f t g place is. early_passes last s f t g place is;
-        owes = λ last s f t g place settled other is. early_owes last s f t g place is;
+        owes = λ last s f t g place settled other is. early_owes last s f t g place settled is;
         turns = λ last s f t g place settled other ask is reply waits. early_turns last s f t g place settled ask is reply waits;
         works_off = λ last s f t g place is. early_works_off last s f t g place is;
       }

@@ -1,11 +1,10 @@
 -- A piece that waits beside a request that goes up: where something is found, what is told of the request with the piece is what is told of it
 -- without, and so is whether it is streamed.
 use Rattle.std.proofs.Common.{◌≡◌, ℕ, ◌==◌, Bool, true, false, List, [], ◌∷◌, ◌++◌, length, Option, Some, None, refl, ap, sym, ◌∙◌, subst}
-use Rattle.std.specs.Prelude.{◌&&◌, if◌then◌else◌, Result, Ok, Err}
+use Rattle.std.specs.Prelude.{◌&&◌, if◌then◌else◌}
 use Rattle.std.proofs.lemmas.List.{append-nil}
 use Rattle.px_message.specs.declared.fault.Fault.{Fault}
 use Rattle.px_message.specs.declared.flow.Flow.{Flow}
-use Rattle.px_message.specs.declared.length.Length.{Length}
 use Rattle.px_event.specs.declared.command.Command.{Command}
 use Rattle.px_event.specs.declared.event.Event.TheVariants as events
 use Rattle.px_event.specs.declared.side.Side.{Side}
@@ -21,31 +20,23 @@ use Rattle.px_read.proofs.ItemLemmas.{request_carries}
 use Rattle.px_read.proofs.LawLemmas.{chunk_laws}
 use Rattle.px_exchange.specs.declared.place.Place.{Place}
 use Rattle.px_exchange.specs.Places.{form_at}
-use Rattle.px_parts.specs.Streamed.{content_so_far, heard_in, request_says, request_streams, streamed_by, streams_behind}
+use Rattle.px_parts.specs.Streamed.{content_so_far, heard_in, request_says, request_streams, streams_behind}
 use Rattle.px_parts.proofs.StreamedLemmas.{request-heard}
-use Rattle.px_chain.specs.Chain.{bad_or, begins_going, is_silent, is_unheard, parked_for, side_if}
-use Rattle.px_chain.specs.Going.{goes_up, going_by, whole_by}
-use Rattle.px_chain.specs.Sights.{Sight, answers_in, server_with, shut_with}
-use Rattle.px_chain.specs.Stages.{At, Parked, side_parked}
+use Rattle.px_chain.specs.Chain.{bad_or}
+use Rattle.px_chain.specs.Keeping.{is_silent}
+use Rattle.px_chain.specs.Going.{going_by, whole_by}
+use Rattle.px_chain.specs.Sights.{Sight, answers_in}
 use Rattle.px_message.specs.declared.request.Request.{Request}
-use Rattle.px_exchange.specs.Places.{is_same_address, server_for}
 use Rattle.px_exchange.specs.Requests.{is_head}
-use Rattle.px_cuts.specs.Shown.{hears}
 use Rattle.px_chain.proofs.GoingLaws.{going_text_stays}
 use Rattle.px_message.specs.declared.response.Response.{Response}
 use Rattle.px_cuts.specs.Alike.{IsBeside, ends_here, has_ended, is_bad}
+use Rattle.px_cuts.specs.Cuts.{is_of}
+use Rattle.px_cuts.proofs.FollowLaws.{and_false}
 use Rattle.px_cuts.proofs.PlaceLaws.{make}
 
 pub not_both : (b : Bool) → b ≡ false → b ≡ true → ⊥
 not_both b fails holds = let e : true ≡ false = sym holds ∙ fails in cc
-
-and_right : (a b : Bool) → (a && b) ≡ true → b ≡ true
-and_right true b is = is
-and_right false b is = absurd (let e : false ≡ true = is in cc)
-
-and_left : (a b : Bool) → (a && b) ≡ true → a ≡ true
-and_left true b is = refl
-and_left false b is = is
 
 -- ---- what is told of a request, with more bytes behind it: the same
 
@@ -157,67 +148,19 @@ waits_more (Server number) bytes own item answered beside bad =
     let other : (number == own) ≡ false = subst (λ b. (b && (number == own)) ≡ false) bad beside in
     ap (λ b. if b then bytes else []) other
 
--- ---- whether it is streamed
-
-kept_length : (says : Result Length Fault) (heard : ℕ) → streamed_by says None heard ≡ false
-kept_length (Ok length) heard = refl
-kept_length (Err fault) heard = refl
-
-kept_behind : (head : Option ReadRequest) (heard : ℕ) → streams_behind request_says head None heard ≡ false
-kept_behind None heard = refl
-kept_behind (Some head) heard = kept_length (request_says head) heard
-
--- where no size is allowed none is
-pub goes_none : (seen : Sight) → goes_up None seen ≡ false
-goes_none seen = kept_behind (head_in (request_item seen.client)) (heard_in (request_reading seen.client).marks)
-
 -- a side of which nothing was seen has begun no response
-pub silent_begun : (asked_head shut : Bool) (server : List ℕ) → is_silent server shut ≡ true → is_begun (answer_list asked_head shut server).final ≡ false
+silent_begun : (asked_head shut : Bool) (server : List ℕ) → is_silent server shut ≡ true → is_begun (answer_list asked_head shut server).final ≡ false
 silent_begun asked_head true [] is = absurd (let e : false ≡ true = is in cc)
 silent_begun asked_head false [] is = refl
 silent_begun asked_head shut (byte ∷ more) is = absurd (let e : false ≡ true = is in cc)
 
-pub silent_beside : (side : Side) (own : ℕ) (request : Request) (seen : Sight) → side ≡ Client → is_unheard (Some own) seen ≡ true →
+-- so a piece that is none of it waits beside a request that begins to go up to it
+pub silent_beside : (side : Side) (own : ℕ) (request : Request) (seen : Sight) → is_of (Some own) side ≡ false → is_silent seen.server seen.shut ≡ true →
     IsBeside side own (request_item seen.client) (is_begun (answers_in request seen).final)
-silent_beside side own request seen is unheard =
-    let P : Side → Type 0 = λ s. IsBeside s own (request_item seen.client) (is_begun (answers_in request seen).final) in
-    subst P (sym is) (silent_begun (is_head request.method) seen.shut seen.server unheard)
+silent_beside Client own request seen is silent = silent_begun (is_head request.method) seen.shut seen.server silent
+silent_beside (Server number) own request seen is silent = and_false (is_bad (request_item seen.client)) (number == own) is
 
--- a piece of the client says nothing of a server's side
-client_silent : (own : ℕ) (shut : Bool) (server bytes : List ℕ) →
-    is_silent (server_with (Some own) shut server (events.Piece Client bytes)) (shut_with (Some own) shut (events.Piece Client bytes)) ≡ is_silent server shut
-client_silent own true server bytes = refl
-client_silent own false server bytes = ap (λ l. is_silent l false) (append-nil server)
-
-client_unheard : (to : Bool) (own : ℕ) (seen : Sight) (bytes : List ℕ) →
-    is_unheard (side_if to own) (hears (Some own) seen (events.Piece Client bytes)) ≡ is_unheard (side_if to own) seen
-client_unheard true own seen bytes = client_silent own seen.shut seen.server bytes
-client_unheard false own seen bytes = refl
-
-parked_unheard : (place : Place) (request : Request) (parked : Option Parked) (seen : Sight) (bytes : List ℕ) →
-    is_unheard (parked_for place request parked) (hears (side_parked parked) seen (events.Piece Client bytes)) ≡ is_unheard (parked_for place request parked) seen
-parked_unheard place request None seen bytes = refl
-parked_unheard place request (Some parked) seen bytes = client_unheard (is_same_address parked.address (server_for place request)) parked.server seen bytes
-
-pub unheard_with : (place : Place) (request : Request) (parked : Option Parked) (seen : Sight) (side : Side) (bytes : List ℕ) → side ≡ Client →
-    is_unheard (parked_for place request parked) (hears (side_parked parked) seen (events.Piece side bytes)) ≡ is_unheard (parked_for place request parked) seen
-unheard_with place request parked seen side bytes is =
-    let P : Side → Type 0 = λ s.
-    is_unheard (parked_for place request parked) (hears (side_parked parked) seen (events.Piece s bytes)) ≡ is_unheard (parked_for place request parked) seen in
-    subst P (sym is) (parked_unheard place request parked seen bytes)
-
--- so none begins to go up
-pub begins_none : (place : Place) (at : At) (flow : Flow) (most : Option ℕ) (seen : Sight) → most ≡ None → begins_going place at flow most seen ≡ false
-begins_none place at flow most seen none = ap (λ b. b && is_unheard (parked_for place flow.request at.parked) seen) (ap (λ m. goes_up m seen) none ∙ goes_none seen)
-
--- what begins to go up is streamed
-pub begins_streamed : (place : Place) (at : At) (flow : Flow) (most : Option ℕ) (seen : Sight) → begins_going place at flow most seen ≡ true → goes_up most seen ≡ true
-begins_streamed place at flow most seen is = and_left (goes_up most seen) (is_unheard (parked_for place flow.request at.parked) seen) is
-
--- and nothing was seen of its side
-pub begins_unheard : (place : Place) (at : At) (flow : Flow) (most : Option ℕ) (seen : Sight) → begins_going place at flow most seen ≡ true →
-    is_unheard (parked_for place flow.request at.parked) seen ≡ true
-begins_unheard place at flow most seen is = and_right (goes_up most seen) (is_unheard (parked_for place flow.request at.parked) seen) is
+-- ---- whether it is streamed
 
 judged_by : (allowed : Option ℕ) (bytes later : List ℕ) (head : Option ReadRequest) → head_in (request_item bytes) ≡ head → head_in (request_item later) ≡ head →
     request_item later ≡ request_item bytes → request_streams allowed later ≡ request_streams allowed bytes

@@ -29,7 +29,7 @@ or_true : (b : Bool) → (b || true) ≡ true
 or_true true = refl
 or_true false = refl
 
-decided_begun : {H : Type 0} (item : Item H) → is_decided item ≡ true → is_begun item ≡ true
+pub decided_begun : {H : Type 0} (item : Item H) → is_decided item ≡ true → is_begun item ≡ true
 decided_begun item decided = ap (λ b. is_some (head_in item) || b) decided ∙ or_true (is_some (head_in item))
 
 headed_begun : {H : Type 0} (item : Item H) → is_some (head_in item) ≡ true → is_begun item ≡ true

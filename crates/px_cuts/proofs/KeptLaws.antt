@@ -21,6 +21,7 @@ use Rattle.px_exchange.specs.Requests.{expects, flow_of, judged}
 use Rattle.px_chain.specs.Chain.{begin_up, behind, come_down, end_up, http_chain, leaving, look, pass, sight_begun, sight_ended, so_far, stands, turn, turn_answer, turn_answer_head, turn_head, turn_judged, turn_taken_answer, turn_taken_head, used_by_begin, used_by_coming, used_by_end, used_by_pass}
 use Rattle.px_chain.specs.Coming.{allowed_by, told_with}
 use Rattle.px_chain.specs.Going.{allowed_up_by}
+use Rattle.px_chain.specs.Keeping.{unspoilt_at}
 use Rattle.px_chain.specs.Sights.{Sight, Standing, UsedBytes, answers_in, request_in, server_in, server_parked, sight_over}
 use Rattle.px_chain.specs.Stages.{At, Sent, Stage, busy, coming_down, connection, given_body, given_head, idle, next, over, request_body, response_body, response_head, upgraded}
 use Rattle.px_chain.proofs.ChainLaws.{behind_turn}
@@ -103,7 +104,9 @@ module _ (onward : Stage → Stage) (made : Terms) where
   head_same index (bad_body fault head body) now used closed = judged_same index head (judged made.place head) now used closed
 
   look_same : (stage : Stage) (seen : Sight) → look made stage seen ≡ look kept stage seen
-  look_same (idle at) seen = ap (λ l. or_leaves seen.closed (leaving (idle at) seen) l) (head_same at.flow (request_in seen) seen.now (server_parked at.parked seen) seen.closed)
+  look_same (idle at) seen =
+      let there : At = unspoilt_at at seen in
+      ap (λ l. or_leaves seen.closed (leaving (idle there) seen) l) (head_same at.flow (request_in seen) seen.now (server_parked there.parked seen) seen.closed)
   look_same (busy at flow doing) seen = refl
   look_same (next at) seen = refl
   look_same over seen = refl
@@ -143,10 +146,10 @@ module _ (onward : Stage → Stage) (made : Terms) where
     answer_same at flow own how (bad_body fault head body) = answer_head_same at flow own how head
 
     turn_same : (stage : Stage) → turn made stage seen answer ≡ turn kept stage seen answer
-    turn_same (idle at) = idle_same at (request_in seen)
+    turn_same (idle at) = idle_same (unspoilt_at at seen) (request_in seen)
     turn_same (busy at flow (request_body given most)) = refl
     turn_same (busy at flow (connection how)) = refl
-    turn_same (busy at flow (response_head own how)) = answer_same at flow own how (answers_in flow.request seen).final
+    turn_same (busy at flow (response_head own how)) = answer_same (unspoilt_at at seen) flow own how (answers_in flow.request seen).final
     turn_same (busy at flow (response_body own how most)) = refl
     turn_same (busy at flow (coming_down own how)) = refl
     turn_same (busy at flow (upgraded own)) = refl

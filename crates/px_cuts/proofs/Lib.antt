@@ -1,7 +1,9 @@
 pub mod ComingLaws
 pub mod ShownLaws
 pub mod PlaceLaws
+pub mod FollowLaws
 pub mod BesideLaws
+pub mod ItemLaws
 pub mod StayLaws
 pub mod PassLaws
 pub mod KeptLaws
@@ -10,5 +12,8 @@ pub mod NextLaws
 pub mod QuietLaws
 pub mod AlikeLaws
 pub mod PieceLemmas
+pub mod EmptyLaws
+pub mod StrayLaws
+pub mod StrayExamples
 pub mod CutLemmas
 pub mod MomentLemmas

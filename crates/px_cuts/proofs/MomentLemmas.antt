@@ -1,7 +1,9 @@
 -- The same events and replies in other steps, and in other pieces, owe the same but for the moments inside flows.
 use Rattle.std.proofs.Common.{◌≡◌, ℕ, Bool, true, false, List, [], ◌∷◌, ◌++◌, map, refl, ap, sym, ◌∙◌, subst, append_assoc}
 use Rattle.std.specs.Prelude.{if◌then◌else◌}
+use Rattle.std.specs.List.{flat_map}
 use Rattle.std.proofs.lemmas.Bool.{eqb-true}
+use Rattle.std.proofs.lemmas.List.{map-append}
 use Rattle.px_event.specs.declared.command.Command.{Command}
 use Rattle.px_event.specs.declared.event.Event.{Event}
 use Rattle.px_event.specs.declared.event.Event.TheVariants as events
@@ -9,17 +11,18 @@ use Rattle.px_event.specs.declared.reply.Reply.{Reply}
 use Rattle.px_event.specs.declared.side.Side.{Side}
 use Rattle.px_event.specs.declared.side.Side.TheVariants.{Client, Server}
 use Rattle.px_event.specs.Alike.{FoundAlike}
-use Rattle.px_event.specs.Chain.{Asks, at_its_step, Chain, due, Ends, found_with, Look, never, NotYet, owed_at, reach, reach_by, Reached, Stamp, Stamped, Stop, Timed, walk, walk_by, worked_off}
+use Rattle.px_event.specs.Chain.{Asks, at_its_step, Chain, due, Ends, found_with, Look, never, NotYet, owed_at, reach, reach_by, Reached, Stamp, Stamped, Stop, Timed, walk, walk_by, walk_from, worked_off}
 use Rattle.px_event.specs.Trace.{is_same_side}
 use Rattle.px_exchange.specs.declared.terms.Terms.{Terms}
 use Rattle.px_cuts.specs.Alike.{is_like, PlacesAlike}
 use Rattle.px_cuts.proofs.AlikeLaws.{more_alike, owes_alike, pass_alike, turn_alike, owed_alike}
 use Rattle.px_chain.specs.Chain.{http_chain, IsOnward, pass}
 use Rattle.px_chain.specs.Sights.{Standing, sight_over}
-use Rattle.px_cuts.specs.Cuts.{EqualButForMoments, MayStand, SameStreams, joined_onto, joined_pieces, no_moment, piece_at, retimed, values_of}
+use Rattle.px_cuts.specs.Cuts.{EqualButForMoments, HttpStop, MayStand, NoneStrays, NothingStrays, SameStreams, as_piece, joined_onto, joined_pieces, no_moment, piece_at, retimed, values_of}
 use Rattle.px_chain.specs.Stages.{Stage}
 use Rattle.px_cuts.specs.Shown.{behind_over, look_over, passed_over, so_far_over}
-use Rattle.px_cuts.proofs.CutLemmas.{halves_owe}
+use Rattle.px_cuts.proofs.CutLemmas.{joined_but_for_moments, stands}
+use Rattle.px_cuts.proofs.EmptyLaws.{left_out}
 
 -- ---- walks at other moments
 
@@ -161,74 +164,119 @@ module _ (onward : Stage → Stage) (goes : IsOnward onward) (terms : Terms) whe
       turned.stage at.rest)
       (owed_alike_there here there at)
 
-  -- ---- pieces joined
+-- ---- pieces byte by byte
 
-  module _ (start : Standing) (may : MayStand terms start []) (replies : List (Stamped Reply)) where
-    -- events that owe the same, and are these but for their steps
-    pub record Joins (before these : List (Stamped Event)) (values : List Event) : Type 0 where
-      pub joined : List (Stamped Event)
-      pub are : values_of joined ≡ values
-      pub owes : EqualButForMoments (due chain start (before ++ these) replies) (due chain start (before ++ joined) replies)
+-- a piece as pieces of one byte
+abbrev bytes_apart : Event → List Event
+bytes_apart (events.Piece side bytes) = map (λ byte. events.Piece side (byte ∷ [])) bytes
+bytes_apart event = event ∷ []
 
-    same_side : (side other : Side) → is_same_side side other ≡ true → other ≡ side
-    same_side Client Client is = refl
-    same_side Client (Server b) is = absurd (let e : false ≡ true = is in cc)
-    same_side (Server a) Client is = absurd (let e : false ≡ true = is in cc)
-    same_side (Server a) (Server b) is = ap (λ n. Server n) (sym (eqb-true a b is))
+abbrev all_apart : List Event → List Event
+all_apart [] = []
+all_apart (event ∷ rest) = bytes_apart event ++ all_apart rest
 
-    as_they_are : (before these : List (Stamped Event)) (values : List Event) → values_of these ≡ values → Joins before these values
-    as_they_are before these values are = record { joined = these; are = are; owes = refl }
+same_side : (side other : Side) → is_same_side side other ≡ true → other ≡ side
+same_side Client Client is = refl
+same_side Client (Server b) is = absurd (let e : false ≡ true = is in cc)
+same_side (Server a) Client is = absurd (let e : false ≡ true = is in cc)
+same_side (Server a) (Server b) is = ap (λ n. Server n) (sym (eqb-true a b is))
 
-    piece_onto : (before : List (Stamped Event)) (stamp next : Stamp) (side other : Side) (bytes more : List ℕ) (rest : List (Stamped Event)) (own : Bool) → is_same_side side other ≡ own →
-        Joins before (piece_at stamp side bytes ∷ piece_at next other more ∷ rest)
-        (if own then events.Piece side (bytes ++ more) ∷ values_of rest else events.Piece side bytes ∷ events.Piece other more ∷ values_of rest)
-    piece_onto before stamp next side other bytes more rest true is =
-        let P : Side → Type 0 = λ x. EqualButForMoments (due chain start (before ++ piece_at stamp side bytes ∷ piece_at next x more ∷ rest) replies)
-        (due chain start (before ++ piece_at stamp side (bytes ++ more) ∷ rest) replies) in
-        record {
-          joined = piece_at stamp side (bytes ++ more) ∷ rest;
-          are = refl;
-          owes = subst P (sym (same_side side other is)) (halves_owe onward goes terms start may before rest replies side stamp stamp next bytes more);
-        }
-    piece_onto before stamp next side other bytes more rest false is = as_they_are before (piece_at stamp side bytes ∷ piece_at next other more ∷ rest) _ refl
+-- of pieces that are joined the bytes are the same
+piece_apart : (side other : Side) (bytes more : List ℕ) (rest : List Event) (own : Bool) → is_same_side side other ≡ own →
+    all_apart (if own then events.Piece side (bytes ++ more) ∷ rest else events.Piece side bytes ∷ events.Piece other more ∷ rest)
+    ≡ bytes_apart (events.Piece side bytes) ++ (bytes_apart (events.Piece other more) ++ all_apart rest)
+piece_apart side other bytes more rest true is =
+    let one : ℕ → Event = λ byte. events.Piece side (byte ∷ []) in
+    ap (λ l. l ++ all_apart rest) (map-append one bytes more)
+    ∙ (append_assoc (map one bytes) (map one more) (all_apart rest)
+    ∙ ap (λ x. map one bytes ++ (map (λ byte. events.Piece x (byte ∷ [])) more ++ all_apart rest)) (sym (same_side side other is)))
+piece_apart side other bytes more rest false is = refl
 
-    behind_piece : (before : List (Stamped Event)) (stamp next : Stamp) (side : Side) (bytes : List ℕ) (value : Event) (rest : List (Stamped Event)) →
-        Joins before (piece_at stamp side bytes ∷ record { stamp = next; value = value } ∷ rest) (joined_onto (events.Piece side bytes) (value ∷ values_of rest))
-    behind_piece before stamp next side bytes (events.Piece other more) rest = piece_onto before stamp next side other bytes more rest (is_same_side side other) refl
-    behind_piece before stamp next side bytes events.Begun rest = as_they_are before _ _ refl
-    behind_piece before stamp next side bytes (events.Closed other) rest = as_they_are before _ _ refl
-    behind_piece before stamp next side bytes (events.Answered ask answer) rest = as_they_are before _ _ refl
+onto_apart : (event : Event) (rest : List Event) → all_apart (joined_onto event rest) ≡ bytes_apart event ++ all_apart rest
+onto_apart (events.Piece side bytes) [] = refl
+onto_apart (events.Piece side bytes) (events.Piece other more ∷ rest) = piece_apart side other bytes more rest (is_same_side side other) refl
+onto_apart (events.Piece side bytes) (events.Begun ∷ rest) = refl
+onto_apart (events.Piece side bytes) (events.Closed other ∷ rest) = refl
+onto_apart (events.Piece side bytes) (events.Answered ask answer ∷ rest) = refl
+onto_apart events.Begun rest = refl
+onto_apart (events.Closed side) rest = refl
+onto_apart (events.Answered ask answer) rest = refl
 
-    join_onto : (before : List (Stamped Event)) (stamp : Stamp) (value : Event) (rest : List (Stamped Event)) →
-        Joins before (record { stamp = stamp; value = value } ∷ rest) (joined_onto value (values_of rest))
-    join_onto before stamp (events.Piece side bytes) [] = as_they_are before _ _ refl
-    join_onto before stamp (events.Piece side bytes) (x ∷ rest) = behind_piece before stamp x.stamp side bytes x.value rest
-    join_onto before stamp events.Begun rest = as_they_are before _ _ refl
-    join_onto before stamp (events.Closed side) rest = as_they_are before _ _ refl
-    join_onto before stamp (events.Answered ask answer) rest = as_they_are before _ _ refl
+joined_apart : (values : List Event) → all_apart (joined_pieces values) ≡ all_apart values
+joined_apart [] = refl
+joined_apart (event ∷ rest) = onto_apart event (joined_pieces rest) ∙ ap (λ l. bytes_apart event ++ l) (joined_apart rest)
 
-    -- Events owe what they owe with all neighbouring pieces joined.
-    pub join_all : (before these : List (Stamped Event)) → Joins before these (joined_pieces (values_of these))
-    join_all before [] = as_they_are before [] [] refl
-    join_all before (e ∷ these) =
-        let behind = join_all (before ++ e ∷ []) these in
-        let whole = join_onto before e.stamp e.value behind.joined in
-        record {
-          joined = whole.joined;
-          are = whole.are ∙ ap (λ l. joined_onto e.value l) behind.are;
-          owes = ap (λ l. map (retimed no_moment) (due chain start l replies)) (sym (append_assoc before (e ∷ []) these))
-              ∙ (behind.owes
-              ∙ (ap (λ l. map (retimed no_moment) (due chain start l replies)) (append_assoc before (e ∷ []) behind.joined)
-              ∙ whole.owes));
-        }
+-- the same of events in their steps
+abbrev single : Stamp → ℕ → Stamped (List ℕ)
+single stamp byte = record { stamp = stamp; value = byte ∷ [] }
 
-  pub streams_owe : (start : Standing) → MayStand terms start [] → (these those : List (Stamped Event)) (replies answers : List (Stamped Reply)) →
-      SameStreams these those → values_of replies ≡ values_of answers →
-      EqualButForMoments (due chain start these replies) (due chain start those answers)
-  streams_owe start may these those replies answers same given =
-      let joined = join_all start may replies [] these in
-      let other = join_all start may answers [] those in
-      joined.owes
-      ∙ (walk_alike replies answers never never [] [] start [] start [] joined.joined other.joined given refl (record { stages = refl; sights = refl; may = may; other_may = may })
-      (joined.are ∙ (same ∙ sym other.are))
-      ∙ sym other.owes)
+abbrev spread_at : Stamp → Event → List (Stamped Event)
+spread_at stamp (events.Piece side bytes) = map (as_piece side) (map (single stamp) bytes)
+spread_at stamp event = record { stamp = stamp; value = event } ∷ []
+
+abbrev spread : List (Stamped Event) → List (Stamped Event)
+spread [] = []
+spread (e ∷ rest) = spread_at e.stamp e.value ++ spread rest
+
+singles_are : (stamp : Stamp) (side : Side) (bytes : List ℕ) → values_of (map (as_piece side) (map (single stamp) bytes)) ≡ map (λ byte. events.Piece side (byte ∷ [])) bytes
+singles_are stamp side [] = refl
+singles_are stamp side (byte ∷ bytes) = ap (λ l. events.Piece side (byte ∷ []) ∷ l) (singles_are stamp side bytes)
+
+spread_are_at : (stamp : Stamp) (event : Event) → values_of (spread_at stamp event) ≡ bytes_apart event
+spread_are_at stamp (events.Piece side bytes) = singles_are stamp side bytes
+spread_are_at stamp events.Begun = refl
+spread_are_at stamp (events.Closed side) = refl
+spread_are_at stamp (events.Answered ask answer) = refl
+
+spread_are : (these : List (Stamped Event)) → values_of (spread these) ≡ all_apart (values_of these)
+spread_are [] = refl
+spread_are (e ∷ these) =
+    map-append (λ (x : Stamped Event). x.value) (spread_at e.stamp e.value) (spread these)
+    ∙ (ap (λ l. l ++ values_of (spread these)) (spread_are_at e.stamp e.value) ∙ ap (λ l. bytes_apart e.value ++ l) (spread_are these))
+
+singles_join : (stamp : Stamp) (bytes : List ℕ) → flat_map (λ (x : Stamped (List ℕ)). x.value) (map (single stamp) bytes) ≡ bytes
+singles_join stamp [] = refl
+singles_join stamp (byte ∷ bytes) = ap (λ l. byte ∷ l) (singles_join stamp bytes)
+
+module _ (onward : Stage → Stage) (goes : IsOnward onward) (terms : Terms) (start : Standing) (may : MayStand terms start []) (replies : List (Stamped Reply)) where
+  abbrev due_over : List (Stamped Event) → List Command
+  due_over events = due (http_chain onward terms) start events replies
+
+  abbrev stop_over : List (Stamped Event) → HttpStop
+  stop_over events = walk_from (http_chain onward terms) start events replies
+
+  -- A piece owes what its bytes owe one by one, where with it nothing stray stands behind a response.
+  bytes_owe : (before after : List (Stamped Event)) (stamp : Stamp) (side : Side) (bytes : List ℕ) → NoneStrays terms (stop_over before) (events.Piece side bytes) →
+      EqualButForMoments (due_over (before ++ piece_at stamp side bytes ∷ after)) (due_over (before ++ (map (as_piece side) (map (single stamp) bytes) ++ after)))
+  bytes_owe before after stamp side [] none = left_out onward goes terms start before after replies stamp side (stands no_moment onward goes terms start before replies may)
+  bytes_owe before after stamp side (byte ∷ bytes) none =
+      let joined : (byte ∷ []) ++ flat_map (λ (x : Stamped (List ℕ)). x.value) (map (single stamp) bytes) ≡ byte ∷ bytes = ap (λ l. byte ∷ l) (singles_join stamp bytes) in
+      let with_all : NoneStrays terms (stop_over before) (events.Piece side ((byte ∷ []) ++ flat_map (λ (x : Stamped (List ℕ)). x.value) (map (single stamp) bytes))) =
+      subst (λ l. NoneStrays terms (stop_over before) (events.Piece side l)) (sym joined) none in
+      sym (joined_but_for_moments onward goes terms start may before after replies side stamp (single stamp byte) (map (single stamp) bytes) with_all
+      ∙ ap (λ l. map (retimed no_moment) (due_over (before ++ piece_at stamp side l ∷ after))) joined)
+
+  spread_owe_at : (before after : List (Stamped Event)) (stamp : Stamp) (event : Event) → NoneStrays terms (stop_over before) event →
+      EqualButForMoments (due_over (before ++ record { stamp = stamp; value = event } ∷ after)) (due_over (before ++ (spread_at stamp event ++ after)))
+  spread_owe_at before after stamp (events.Piece side bytes) none = bytes_owe before after stamp side bytes none
+  spread_owe_at before after stamp events.Begun none = refl
+  spread_owe_at before after stamp (events.Closed side) none = refl
+  spread_owe_at before after stamp (events.Answered ask answer) none = refl
+
+  -- Events owe what they owe byte by byte.
+  pub spread_owe : (before these : List (Stamped Event)) → NothingStrays onward terms start replies before these → EqualButForMoments (due_over (before ++ these)) (due_over (before ++ spread these))
+  spread_owe before [] none = refl
+  spread_owe before (e ∷ these) none =
+      ap (λ l. map (retimed no_moment) (due_over l)) (sym (append_assoc before (e ∷ []) these))
+      ∙ (spread_owe (before ++ e ∷ []) these none.1
+      ∙ (ap (λ l. map (retimed no_moment) (due_over l)) (append_assoc before (e ∷ []) (spread these))
+      ∙ spread_owe_at before (spread these) e.stamp e.value none.0))
+
+pub streams_owe : (onward : Stage → Stage) (goes : IsOnward onward) (terms : Terms) (start : Standing) → MayStand terms start [] → (these those : List (Stamped Event)) (replies answers : List (Stamped Reply)) →
+    SameStreams these those → values_of replies ≡ values_of answers → NothingStrays onward terms start replies [] these → NothingStrays onward terms start answers [] those →
+    EqualButForMoments (due (http_chain onward terms) start these replies) (due (http_chain onward terms) start those answers)
+streams_owe onward goes terms start may these those replies answers same given none none' =
+    spread_owe onward goes terms start may replies [] these none
+    ∙ (walk_alike onward goes terms replies answers never never [] [] start [] start [] (spread these) (spread those) given refl (record { stages = refl; sights = refl; may = may; other_may = may })
+    (spread_are these ∙ (sym (joined_apart (values_of these)) ∙ (ap (λ l. all_apart l) same ∙ (joined_apart (values_of those) ∙ sym (spread_are those)))))
+    ∙ sym (spread_owe onward goes terms start may answers [] those none'))

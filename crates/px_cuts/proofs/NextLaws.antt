@@ -35,52 +35,27 @@ use Rattle.px_exchange.specs.Flows.{ask_of, response_of, with_answer, with_body,
 use Rattle.px_exchange.specs.Replies.{taken_at_request_body, taken_at_request_head, taken_at_response_body, taken_at_response_head}
 use Rattle.px_exchange.specs.Requests.{expects, flow_of, is_head, judged}
 use Rattle.px_chain.specs.Behind.{sight_behind}
-use Rattle.px_chain.specs.Chain.{IsOnward, bad_or, begins_going, behind_flow, dial_leads, finish_by, given_at, goes_on_by, goes_up_by, is_alone, is_sequence, is_unheard, look, look_coming, parked_for, pass, pass_came, pass_given, pass_going, pass_kept, past_came, past_gone, past_kept, reached, sequence, sight_past, stands, turn, turn_answer, turn_answer_head, turn_body, turn_head, turn_judged, turn_response, turn_returned, turn_taken_answer, turn_taken_body, turn_taken_given, turn_taken_head, turn_taken_returned, turn_taken_whole}
+use Rattle.px_chain.specs.Chain.{IsOnward, bad_or, behind_flow, dial_leads, finish_by, given_at, goes_on_by, goes_up_by, is_alone, is_sequence, keeps_came, look, look_coming, parked_for, pass, pass_came, pass_given, pass_going, pass_kept, past_came, past_gone, past_kept, reached, sequence, side_if, sight_past, stands, turn, turn_answer, turn_answer_head, turn_body, turn_head, turn_judged, turn_response, turn_returned, turn_taken_answer, turn_taken_body, turn_taken_given, turn_taken_head, turn_taken_returned, turn_taken_whole}
 use Rattle.px_chain.specs.Coming.{Came, allowed_by, came_by, came_in, goes_on_behind, streaming, streams_in}
-use Rattle.px_chain.specs.Going.{allowed_up_by, is_sent, sending_on, whole_in, with_whole}
+use Rattle.px_chain.specs.Going.{allowed_up_by, goes_up, is_sent, sending_on, whole_in, with_whole}
+use Rattle.px_chain.specs.Keeping.{is_silent, keeps_side, parks, unspoilt_at, unspoilt_by}
 use Rattle.px_chain.specs.Sights.{Sight, Standing, answers_in, request_in, server_in, server_parked, server_with, sight_over, sight_with}
-use Rattle.px_chain.specs.Stages.{At, Sent, Stage, all_sent, busy, coming_down, connection, given_body, given_head, going_up, idle, next, over, request_body, response_body, response_head, side_of, unparked, upgraded}
+use Rattle.px_chain.specs.Stages.{At, Parked, Sent, Stage, all_sent, busy, coming_down, connection, given_body, given_head, going_up, idle, next, over, request_body, response_body, response_head, side_of, side_parked, unparked, upgraded}
 use Rattle.px_chain.specs.Streams.{client_closed}
 use Rattle.px_chain.proofs.ChainLaws.{leaves_by, open_still, passes_by}
 use Rattle.px_chain.proofs.SightLaws.{sight_passed, sight_turned}
-use Rattle.px_cuts.specs.Alike.{IsBeside, MayBeCut, WaitsBeside, ends_here, has_ended, is_bad, of_apart, of_client}
-use Rattle.px_cuts.specs.Cuts.{GoesUpApart, KeepsRequest, MayBeHeard, MayStand, NoneGoesUp, none_parked, none_streamed, parked_at}
+use Rattle.px_cuts.specs.Alike.{IsBeside, MayBeFollowed, WaitsBeside, apart, ends_here, has_ended, is_bad, unkept}
+use Rattle.px_cuts.specs.Cuts.{MayBeHeard, MayStand, NoneGoesUp, is_of, keeps_behind, keeps_by, keeps_coming}
 use Rattle.px_cuts.specs.Shown.{hears, look_over, moment_at, passed_over, retimed_stage, shown_over}
-use Rattle.px_cuts.proofs.BesideLaws.{begins_none, begins_unheard, not_both, not_ended, silent_beside}
+use Rattle.px_cuts.proofs.BesideLaws.{not_both, not_ended, silent_beside}
+use Rattle.px_cuts.proofs.FollowLaws.{followed_late, heard_busy}
+use Rattle.px_exchange.specs.Places.{is_same_address, server_for}
 use Rattle.px_cuts.proofs.PassLaws.{left_begun, passes_begun}
 use Rattle.px_cuts.proofs.PlaceLaws.{shown_more}
 
 -- ---- by the stage seen so
 
 module _ (see : ℕ → ℕ) where
-  pub parked_retimed : (stage : Stage) → parked_at (retimed_stage see stage) ≡ parked_at stage
-  parked_retimed (idle at) = refl
-  parked_retimed (busy at flow doing) = refl
-  parked_retimed (next at) = refl
-  parked_retimed over = refl
-
-  keeps_retimed : (stage : Stage) → KeepsRequest stage → KeepsRequest (retimed_stage see stage)
-  keeps_retimed (idle at) kept = tt
-  keeps_retimed (busy at flow (request_body None most)) kept = kept
-  keeps_retimed (busy at flow (request_body (Some response) most)) kept = tt
-  keeps_retimed (busy at flow (connection how)) kept = tt
-  keeps_retimed (busy at flow (response_head own how)) kept = tt
-  keeps_retimed (busy at flow (response_body own how most)) kept = tt
-  keeps_retimed (busy at flow (coming_down own how)) kept = tt
-  keeps_retimed (busy at flow (upgraded own)) kept = tt
-  keeps_retimed (busy at flow given_head) kept = tt
-  keeps_retimed (busy at flow given_body) kept = tt
-  keeps_retimed (next at) kept = tt
-  keeps_retimed over kept = tt
-
-  apart_retimed : (terms : Terms) (stage : Stage) → GoesUpApart terms stage → GoesUpApart terms (retimed_stage see stage)
-  apart_retimed terms stage (none_parked is) = none_parked (parked_retimed stage ∙ is)
-  apart_retimed terms stage (none_streamed none kept) = none_streamed none (keeps_retimed stage kept)
-
-  pub cut_retimed : (terms : Terms) (side : Side) (stage : Stage) → MayBeCut terms side stage → MayBeCut terms side (retimed_stage see stage)
-  cut_retimed terms side stage (of_client is) = of_client is
-  cut_retimed terms side stage (of_apart apart) = of_apart (apart_retimed terms stage apart)
-
   pub beside_retimed : (side : Side) (stage : Stage) (v : Sight) → WaitsBeside side stage v → WaitsBeside side (retimed_stage see stage) v
   beside_retimed side (idle at) v beside = tt
   beside_retimed side (busy at flow (request_body given most)) v beside = tt
@@ -150,7 +125,7 @@ module _ (terms : Terms) (side : Side) where
 
   came_all : (at : At) (flow : Flow) (own : ℕ) (v : Sight) (came : Option Came) → WaitsBeside side (pass_came terms.place at flow own all_sent v came).stage (past_came came v)
   came_all at flow own v None = tt
-  came_all at flow own v (Some came) = behind_beside (is_sent all_sent && goes_on_behind at.flow flow.request came) (unparked at) (past_came (Some came) v)
+  came_all at flow own v (Some came) = behind_beside (is_sent all_sent && goes_on_behind at.flow flow.request came) (parks (keeps_came at flow all_sent v came) terms.place at flow.request own) (past_came (Some came) v)
 
   kept_all : (streams : Bool) (at : At) (flow : Flow) (own : ℕ) (most : Option ℕ) (v : Sight) →
       WaitsBeside side (pass_kept streams terms.place at flow own all_sent most v).stage (past_kept streams (came_in (streaming flow) v) v)
@@ -200,20 +175,27 @@ module _ (terms : Terms) (side : Side) where
   BesideBegun to v = WaitsBeside side (passes_begun terms to v).stage (left_begun terms to v)
 
   -- to a side of which nothing was seen
-  up_beside : (to : Option ℕ) (at : At) (flow : Flow) (v : Sight) → is_unheard to v ≡ true → side ≡ Client → BesideBegun (goes_up_by to terms.place at flow) v
-  up_beside None at flow v unheard client = tt
-  up_beside (Some own) at flow v unheard client =
-      let other : Flow = reached terms.place flow in head_by (whole_in v) (unparked at) other own v (silent_beside side own other.request v client unheard)
+  up_if : (to_it : Bool) (own : ℕ) (at : At) (flow : Flow) (v : Sight) → is_silent v.server v.shut ≡ true → is_of (Some own) side ≡ false →
+      BesideBegun (goes_up_by (side_if to_it own) terms.place at flow) v
+  up_if true own at flow v silent other_side =
+      let other : Flow = reached terms.place flow in head_by (whole_in v) (unparked at) other own v (silent_beside side own other.request v other_side silent)
+  up_if false own at flow v silent other_side = tt
 
-  going_beside : (up : Bool) (at : At) (flow : Flow) (most : Option ℕ) (v : Sight) → begins_going terms.place at flow most v ≡ up → MayBeCut terms side (busy at flow (request_body None most)) →
-      BesideBegun (pass_going up terms.place at flow most) v
-  going_beside true at flow most v is (of_apart (none_parked none)) =
-      let dials : BesideBegun (goes_up_by None terms.place at (sending_on flow)) v = tt in
-      subst (λ p. BesideBegun (goes_up_by (parked_for terms.place flow.request p) terms.place at (sending_on flow)) v) (sym none) dials
-  going_beside true at flow most v is (of_client client) =
-      up_beside (parked_for terms.place flow.request at.parked) at (sending_on flow) v (begins_unheard terms.place at flow most v is) client
-  going_beside true at flow most v is (of_apart (none_streamed none kept)) = absurd (not_both (begins_going terms.place at flow most v) (begins_none terms.place at flow most v kept) is)
-  going_beside false at flow most v is apart = tt
+  up_parked : (parked : Option Parked) (request : Request) (at : At) (flow : Flow) (v : Sight) → is_silent v.server v.shut ≡ true → is_of (side_parked parked) side ≡ false →
+      BesideBegun (goes_up_by (parked_for terms.place request parked) terms.place at flow) v
+  up_parked None request at flow v silent other_side = tt
+  up_parked (Some parked) request at flow v silent other_side = up_if (is_same_address parked.address (server_for terms.place request)) parked.server at flow v silent other_side
+
+  up_beside : (silent : Bool) (at : At) (flow other : Flow) (most : Option ℕ) (v : Sight) → is_silent v.server v.shut ≡ silent → MayBeFollowed side (busy at flow (request_body None most)) v →
+      BesideBegun (goes_up_by (parked_for terms.place flow.request (unspoilt_by silent at.parked)) terms.place at other) v
+  up_beside true at flow other most v silent (apart is) = up_parked at.parked flow.request at other v silent is
+  up_beside true at flow other most v silent (unkept is) = absurd (not_both (is_silent v.server v.shut) is silent)
+  up_beside false at flow other most v silent follows = tt
+
+  going_beside : (up : Bool) (at : At) (flow : Flow) (most : Option ℕ) (v : Sight) → MayBeFollowed side (busy at flow (request_body None most)) v →
+      BesideBegun (pass_going up terms.place at flow most v) v
+  going_beside true at flow most v follows = up_beside (is_silent v.server v.shut) at flow (sending_on flow) most v refl follows
+  going_beside false at flow most v follows = tt
 
   given_beside : (item : Item ReadRequest) (at : At) (flow : Flow) (response : Response) (most : Option ℕ) (now : ℕ) (v : Sight) → BesideBegun (pass_given at flow response most item now) v
   given_beside missing at flow response most now v = tt
@@ -222,32 +204,32 @@ module _ (terms : Terms) (side : Side) where
   given_beside (bad_head fault) at flow response most now v = tt
   given_beside (bad_body fault head body) at flow response most now v = tt
 
-  past_beside : (stage : Stage) (v : Sight) → MayBeCut terms side stage → WaitsBeside side stage v → WaitsBeside side (pass terms stage v).stage (sight_past terms stage v)
-  past_beside (idle at) v apart beside = tt
-  past_beside (busy at flow (request_body None most)) v apart beside = going_beside (begins_going terms.place at flow most v) at flow most v refl apart
-  past_beside (busy at flow (request_body (Some response) most)) v apart beside = given_beside (request_in v) at flow response most v.now _
-  past_beside (busy at flow (connection how)) v apart beside = tt
-  past_beside (busy at flow (response_head own all_sent)) v apart beside = tt
-  past_beside (busy at flow (response_head own going_up)) v apart beside = head_by (whole_in v) at flow own v beside
-  past_beside (busy at flow (response_body own all_sent most)) v apart beside = kept_all (streams_in flow most v) at flow own most v
-  past_beside (busy at flow (response_body own going_up most)) v apart beside = body_by (whole_in v) at flow own most v beside
-  past_beside (busy at flow (coming_down own all_sent)) v apart beside = came_all at flow own v (came_in flow v)
-  past_beside (busy at flow (coming_down own going_up)) v apart beside = coming_by_size (whole_in v) at flow own v beside
-  past_beside (busy at flow (upgraded own)) v apart beside = tt
-  past_beside (busy at flow given_head) v apart beside = tt
-  past_beside (busy at flow given_body) v apart beside = tt
-  past_beside (next at) v apart beside = tt
-  past_beside over v apart beside = tt
+  past_beside : (stage : Stage) (v : Sight) → MayBeFollowed side stage v → WaitsBeside side stage v → WaitsBeside side (pass terms stage v).stage (sight_past terms stage v)
+  past_beside (idle at) v follows beside = tt
+  past_beside (busy at flow (request_body None most)) v follows beside = going_beside (goes_up most v) at flow most v follows
+  past_beside (busy at flow (request_body (Some response) most)) v follows beside = given_beside (request_in v) at flow response most v.now _
+  past_beside (busy at flow (connection how)) v follows beside = tt
+  past_beside (busy at flow (response_head own all_sent)) v follows beside = tt
+  past_beside (busy at flow (response_head own going_up)) v follows beside = head_by (whole_in v) at flow own v beside
+  past_beside (busy at flow (response_body own all_sent most)) v follows beside = kept_all (streams_in flow most v) at flow own most v
+  past_beside (busy at flow (response_body own going_up most)) v follows beside = body_by (whole_in v) at flow own most v beside
+  past_beside (busy at flow (coming_down own all_sent)) v follows beside = came_all at flow own v (came_in flow v)
+  past_beside (busy at flow (coming_down own going_up)) v follows beside = coming_by_size (whole_in v) at flow own v beside
+  past_beside (busy at flow (upgraded own)) v follows beside = tt
+  past_beside (busy at flow given_head) v follows beside = tt
+  past_beside (busy at flow given_body) v follows beside = tt
+  past_beside (next at) v follows beside = tt
+  past_beside over v follows beside = tt
 
 -- So it waits where a place passes.
-pub beside_passed : (see : ℕ → ℕ) (terms : Terms) (onward : Stage → Stage) → IsOnward onward → (side : Side) (s : Standing) (f : List (Timed Event)) → MayBeCut terms side s.stage →
+pub beside_passed : (see : ℕ → ℕ) (terms : Terms) (onward : Stage → Stage) → IsOnward onward → (side : Side) (s : Standing) (f : List (Timed Event)) → MayBeFollowed side s.stage (shown_over see s f) →
     WaitsBeside side s.stage (shown_over see s f) → WaitsBeside side (passed_over onward terms s f).stage (shown_over see (passed_over onward terms s f) f)
-beside_passed see terms onward goes side s f apart beside =
+beside_passed see terms onward goes side s f follows beside =
     let v : Sight = sight_over s f in
     let there : Standing = passed_over onward terms s f in
     let before : WaitsBeside side s.stage v = beside_on side s.stage (shown_over see s f) v.now beside in
     let behind : WaitsBeside side there.stage (sight_past terms s.stage v) =
-    beside_onward side onward goes (pass terms s.stage v).stage (sight_past terms s.stage v) (past_beside terms side s.stage v apart before) in
+    beside_onward side onward goes (pass terms s.stage v).stage (sight_past terms s.stage v) (past_beside terms side s.stage v (followed_late side s.stage (shown_over see s f) v.now follows) before) in
     beside_on side there.stage (sight_over there f) (moment_at see there.stage (sight_over there f).now)
     (subst (λ x. WaitsBeside side there.stage x) (sym (sight_passed onward goes terms s f)) behind)
 
@@ -372,24 +354,29 @@ module _ (terms : Terms) (side : Side) (moment : ℕ) where
   response_beside from v None takes goes each = tt
   response_beside from v (Some response) takes goes each = each (takes response)
 
-  finish_beside : (from : Stage) (v : Sight) (switches : Bool) (at : At) (flow : Flow) (how : Sent) (response : Response) (own : ℕ) (used : Used) (closed : Bool) →
-      BesideAt from v (finish_by switches at flow how response own used closed).stage
-  finish_beside from v true at flow how response own used closed = tt
-  finish_beside from v false at flow how response own used closed = finished_beside from v (is_sent how && connection_goes_on at.flow flow.request response) (unparked at)
+  finish_beside : (from : Stage) (v : Sight) (switches : Bool) (at : At) (flow : Flow) (how : Sent) (response : Response) (keeps : Bool) (own : ℕ) (used : Used) (closed : Bool) →
+      BesideAt from v (finish_by switches terms.place at flow how response keeps own used closed).stage
+  finish_beside from v true at flow how response keeps own used closed = tt
+  finish_beside from v false at flow how response keeps own used closed =
+      let goes_on : Bool = is_sent how && connection_goes_on at.flow flow.request response in
+      finished_beside from v goes_on (parks (goes_on && keeps) terms.place at flow.request own)
 
-  whole_beside : (from : Stage) (v : Sight) (at : At) (flow : Flow) (own : ℕ) (how : Sent) (taken : Taken Response) (late : ℕ) (used : Used) (closed : Bool) →
-      BesideAt from v (turn_taken_whole at flow own how taken late used closed).stage
-  whole_beside from v at flow own how (GoesOn response) late used closed = finish_beside from v (is_sent how && response.status == 101) at flow how response own used closed
-  whole_beside from v at flow own how (Responds response) late used closed = tt
-  whole_beside from v at flow own how Kills late used closed = tt
+  whole_beside : (from : Stage) (v : Sight) (at : At) (flow : Flow) (own : ℕ) (how : Sent) (keeps : Bool) (taken : Taken Response) (late : ℕ) (used : Used) (closed : Bool) →
+      BesideAt from v (turn_taken_whole terms.place at flow own how keeps taken late used closed).stage
+  whole_beside from v at flow own how keeps (GoesOn response) late used closed = finish_beside from v (is_sent how && response.status == 101) at flow how response keeps own used closed
+  whole_beside from v at flow own how keeps (Responds response) late used closed = tt
+  whole_beside from v at flow own how keeps Kills late used closed = tt
 
-  returned_beside : (from : Stage) (at : At) (flow : Flow) (own : ℕ) (how : Sent) (item : Item ReadResponse) (v : Sight) (answer : Timed Reply) → BesideAt from v (turn_returned at flow own how item v answer).stage
+  returned_beside : (from : Stage) (at : At) (flow : Flow) (own : ℕ) (how : Sent) (item : Item ReadResponse) (v : Sight) (answer : Timed Reply) →
+      BesideAt from v (turn_returned terms.place at flow own how item v answer).stage
   returned_beside from at flow own how missing v answer = tt
   returned_beside from at flow own how (part head body) v answer = tt
   returned_beside from at flow own how (complete head body trailers size) v answer =
       let whole : Flow = with_returned flow body.content trailers v.now in
+      let keeps : Bool = keeps_side flow.request v head in
       response_beside from v whole.response (λ response. taken_at_response_body response answer.value)
-      (λ taken. turn_taken_whole at whole own how taken answer.moment (server_in own v) v.closed) (λ taken. whole_beside from v at whole own how taken answer.moment (server_in own v) v.closed)
+      (λ taken. turn_taken_whole terms.place at whole own how keeps taken answer.moment (server_in own v) v.closed)
+      (λ taken. whole_beside from v at whole own how keeps taken answer.moment (server_in own v) v.closed)
   returned_beside from at flow own how (bad_head fault) v answer = tt
   returned_beside from at flow own how (bad_body fault head body) v answer = tt
 
@@ -419,26 +406,28 @@ module _ (terms : Terms) (side : Side) (moment : ℕ) where
 
   turned_beside : (stage : Stage) (v : Sight) (answer : Timed Reply) (ask : Command) → v.closed ≡ false → WaitsBeside side stage v → MayBeHeard side stage → look terms stage v ≡ Asks ask →
       BesideAt stage v (turn terms stage v answer).stage
-  turned_beside (idle at) v answer ask open_client beside heard asks = head_beside at (request_in v) v answer
-  turned_beside (busy at flow (request_body given most)) v answer ask open_client beside heard asks = body_beside (busy at flow (request_body given most)) at flow (request_in v) v answer
-  turned_beside (busy at flow (connection how)) v answer ask open_client beside heard asks = dial_beside at flow how answer.value v heard
+  turned_beside (idle at) v answer ask open_client beside heard asks = head_beside (unspoilt_at at v) (request_in v) v answer
+  turned_beside (busy at flow (request_body given most)) v answer ask open_client beside heard asks = body_beside (busy at flow (request_body given most)) (unspoilt_at at v) flow (request_in v) v answer
+  turned_beside (busy at flow (connection how)) v answer ask open_client beside heard asks = dial_beside (unspoilt_at at v) flow how answer.value v (heard_busy side at (unspoilt_at at v).parked flow (connection how) heard)
   turned_beside (busy at flow (response_head own all_sent)) v answer ask open_client beside heard asks =
-      answer_beside at flow own all_sent (answers_in flow.request v).final v answer (λ other most. tt)
+      answer_beside (unspoilt_at at v) flow own all_sent (answers_in flow.request v).final v answer (λ other most. tt)
   turned_beside (busy at flow (response_head own going_up)) v answer ask open_client beside heard asks =
-      answer_beside at flow own going_up (answers_in flow.request v).final v answer (λ other most. up_body at flow own v ask side open_client beside asks _)
+      answer_beside (unspoilt_at at v) flow own going_up (answers_in flow.request v).final v answer (λ other most. up_body at flow own v ask side open_client beside asks _)
   turned_beside (busy at flow (response_body own how most)) v answer ask open_client beside heard asks =
-      returned_beside (busy at flow (response_body own how most)) at flow own how (answers_in flow.request v).final v answer
+      returned_beside (busy at flow (response_body own how most)) (unspoilt_at at v) flow own how (answers_in flow.request v).final v answer
   turned_beside (busy at flow (coming_down own how)) v answer ask open_client beside heard asks = tt
   turned_beside (busy at flow (upgraded own)) v answer ask open_client beside heard asks = tt
   turned_beside (busy at flow given_head) v answer ask open_client beside heard asks =
       let given : Flow = given_at flow v.now in
+      let there : At = unspoilt_at at v in
       response_beside (busy at flow given_head) v given.response (λ response. taken_at_response_head response answer.value)
-      (λ taken. turn_taken_given at given taken answer.moment (server_parked at.parked v) v.closed)
-      (λ taken. given_taken_beside (busy at flow given_head) v at given taken answer.moment (server_parked at.parked v) v.closed)
+      (λ taken. turn_taken_given there given taken answer.moment (server_parked there.parked v) v.closed)
+      (λ taken. given_taken_beside (busy at flow given_head) v there given taken answer.moment (server_parked there.parked v) v.closed)
   turned_beside (busy at flow given_body) v answer ask open_client beside heard asks =
+      let there : At = unspoilt_at at v in
       response_beside (busy at flow given_body) v flow.response (λ response. taken_at_response_body response answer.value)
-      (λ taken. turn_taken_returned at flow taken answer.moment (server_parked at.parked v) v.closed)
-      (λ taken. returned_taken_beside (busy at flow given_body) v at flow taken answer.moment (server_parked at.parked v) v.closed)
+      (λ taken. turn_taken_returned there flow taken answer.moment (server_parked there.parked v) v.closed)
+      (λ taken. returned_taken_beside (busy at flow given_body) v there flow taken answer.moment (server_parked there.parked v) v.closed)
   turned_beside (next at) v answer ask open_client beside heard asks = tt
   turned_beside over v answer ask open_client beside heard asks = tt
 
@@ -525,41 +514,44 @@ came_whole (Some response) flow (complete head body trailers size) now used clos
 came_whole (Some response) flow (bad_head fault) now used closed is none = refl
 came_whole (Some response) flow (bad_body fault head body) now used closed is none = absurd (let e : Ends (ends_early flow (fault_message fault) now used closed) ≡ NotYet = is in cc)
 
--- a response comes down beside a request that goes up
-abbrev comes_beside : Stage → Bool
-comes_beside (busy at flow (coming_down own going_up)) = true
-comes_beside stage = false
+-- a response comes down
+abbrev comes_at : Stage → Bool
+comes_at (busy at flow (coming_down own how)) = true
+comes_at stage = false
 
-sequence_comes : (stage : Stage) → comes_beside (sequence stage) ≡ comes_beside stage
+sequence_comes : (stage : Stage) → comes_at (sequence stage) ≡ comes_at stage
 sequence_comes (idle at) = refl
 sequence_comes (busy at flow doing) = refl
 sequence_comes (next at) = refl
 sequence_comes over = refl
 
-onward_comes : (onward : Stage → Stage) → IsOnward onward → (stage : Stage) → comes_beside (onward stage) ≡ comes_beside stage
-onward_comes onward (is_alone is) stage = let P : (Stage → Stage) → Type 0 = λ g. comes_beside (g stage) ≡ comes_beside stage in subst P (sym is) refl
-onward_comes onward (is_sequence is) stage = let P : (Stage → Stage) → Type 0 = λ g. comes_beside (g stage) ≡ comes_beside stage in subst P (sym is) (sequence_comes stage)
+onward_comes : (onward : Stage → Stage) → IsOnward onward → (stage : Stage) → comes_at (onward stage) ≡ comes_at stage
+onward_comes onward (is_alone is) stage = let P : (Stage → Stage) → Type 0 = λ g. comes_at (g stage) ≡ comes_at stage in subst P (sym is) refl
+onward_comes onward (is_sequence is) stage = let P : (Stage → Stage) → Type 0 = λ g. comes_at (g stage) ≡ comes_at stage in subst P (sym is) (sequence_comes stage)
 
-behind_comes : (stays : Bool) (at : At) → comes_beside (behind_flow stays at) ≡ false
+behind_comes : (stays : Bool) (at : At) → comes_at (behind_flow stays at) ≡ false
 behind_comes true at = refl
 behind_comes false at = refl
 
 module _ (terms : Terms) where
-  whole_comes : (at : At) (flow : Flow) (own : ℕ) (v : Sight) (came : Option Came) → comes_beside (pass_came terms.place at flow own all_sent v came).stage ≡ false
-  whole_comes at flow own v None = refl
-  whole_comes at flow own v (Some came) = behind_comes (is_sent all_sent && goes_on_behind at.flow flow.request came) (unparked at)
-
-  up_comes : (at : At) (flow : Flow) (own : ℕ) (v : Sight) (came : Option Came) → comes_beside (pass_came terms.place at flow own going_up v came).stage ≡ true → came ≡ None
-  up_comes at flow own v None is = refl
-  up_comes at flow own v (Some came) is = absurd (let e : false ≡ true = is in cc)
-
   -- where it stands it is not whole
-  not_came : (at : At) (flow : Flow) (own : ℕ) (v : Sight) (size : Option ℕ) → comes_beside (passes_by size terms at flow (coming_down own going_up) v).stage ≡ true → came_in flow v ≡ None
-  not_came at flow own v None is = up_comes at flow own v (came_in flow v) is
-  not_came at flow own v (Some size) is =
+  came_stands : (at : At) (flow : Flow) (own : ℕ) (how : Sent) (v : Sight) (came : Option Came) → comes_at (pass_came terms.place at flow own how v came).stage ≡ true → came ≡ None
+  came_stands at flow own how v None is = refl
+  came_stands at flow own how v (Some came) is =
+      let goes_on : Bool = is_sent how && goes_on_behind at.flow flow.request came in
+      let to : At = parks (keeps_came at flow how v came) terms.place at flow.request own in
+      absurd (not_both (comes_at (behind_flow goes_on to)) (behind_comes goes_on to) is)
+
+  came_by_size : (at : At) (flow : Flow) (own : ℕ) (v : Sight) (size : Option ℕ) → comes_at (passes_by size terms at flow (coming_down own going_up) v).stage ≡ true → came_in flow v ≡ None
+  came_by_size at flow own v None is = came_stands at flow own going_up v (came_in flow v) is
+  came_by_size at flow own v (Some size) is =
       let whole : Flow = with_whole flow v.now in
       let left : Sight = past_gone (Some own) v in
-      absurd (not_both (comes_beside (pass_came terms.place at whole own all_sent left (came_in whole left)).stage) (whole_comes at whole own left (came_in whole left)) is)
+      came_stands at whole own all_sent left (came_in whole left) is
+
+  not_came : (at : At) (flow : Flow) (own : ℕ) (how : Sent) (v : Sight) → comes_at (pass terms (busy at flow (coming_down own how)) v).stage ≡ true → came_in flow v ≡ None
+  not_came at flow own all_sent v is = came_stands at flow own all_sent v (came_in flow v) is
+  not_came at flow own going_up v is = came_by_size at flow own v (whole_in v) is
 
   module _ (bytes : List ℕ) where
     -- of the server's side a piece of the client says nothing
@@ -580,7 +572,7 @@ module _ (terms : Terms) where
     piece_beside (Server number) own request v flag good none =
         ap (λ l. is_bad (request_item l) && (number == own)) (append-nil v.client) ∙ ap (λ b. b && (number == own)) good
 
-    more_beside : (side : Side) (stage : Stage) (v : Sight) → v.closed ≡ false → look terms stage v ≡ NotYet → comes_beside (pass terms stage v).stage ≡ comes_beside stage →
+    more_beside : (side : Side) (stage : Stage) (v : Sight) → v.closed ≡ false → look terms stage v ≡ NotYet → comes_at (pass terms stage v).stage ≡ comes_at stage →
         WaitsBeside side stage (hears (side_of stage) v (events.Piece side bytes))
     more_beside side (idle at) v open_client is stands = tt
     more_beside side (busy at flow (request_body given most)) v open_client is stands = tt
@@ -612,12 +604,59 @@ module _ (terms : Terms) where
         let P : Bool → Type 0 = λ b. or_leaves b (ends_early flow closed_message v.now used true) (bad_or (request_in v) ends inner) ≡ NotYet in
         let none = none_found (ends_early flow closed_message v.now used true) (bad_or (request_in v) ends inner) (subst P open_client is) in
         piece_beside side own flow.request v (λ i. ends_here flow.response i) (not_refused (request_in v) ends inner none)
-        (came_whole flow.response flow final v.now used v.closed (not_inner (request_in v) ends inner none) (not_came at flow own v (whole_in v) stands))
+        (came_whole flow.response flow final v.now used v.closed (not_inner (request_in v) ends inner none) (not_came at flow own going_up v stands))
     more_beside side (busy at flow (upgraded own)) v open_client is stands = tt
     more_beside side (busy at flow given_head) v open_client is stands = tt
     more_beside side (busy at flow given_body) v open_client is stands = tt
     more_beside side (next at) v open_client is stands = tt
     more_beside side over v open_client is stands = tt
+
+  -- nor does a response end there behind which its side is kept
+  begun_kept : (request : Request) (v : Sight) (item : Item ReadResponse) → is_begun item ≡ false → keeps_by request v item ≡ false
+  begun_kept request v missing none = refl
+  begun_kept request v (part head body) none = refl
+  begun_kept request v (complete head body trailers size) none = absurd (let e : true ≡ false = none in cc)
+  begun_kept request v (bad_head fault) none = refl
+  begun_kept request v (bad_body fault head body) none = refl
+
+  ended_kept : (request : Request) (v : Sight) (item : Item ReadResponse) → has_ended item ≡ false → keeps_by request v item ≡ false
+  ended_kept request v missing none = refl
+  ended_kept request v (part head body) none = refl
+  ended_kept request v (complete head body trailers size) none = absurd (let e : true ≡ false = none in cc)
+  ended_kept request v (bad_head fault) none = refl
+  ended_kept request v (bad_body fault head body) none = refl
+
+  none_kept : (stage : Stage) (v : Sight) → v.closed ≡ false → look terms stage v ≡ NotYet → comes_at (pass terms stage v).stage ≡ comes_at stage → NoneGoesUp stage → keeps_behind stage v ≡ false
+  none_kept (idle at) v open_client is stands none = refl
+  none_kept (busy at flow (request_body given most)) v open_client is stands none = refl
+  none_kept (busy at flow (connection how)) v open_client is stands none = refl
+  none_kept (busy at flow (response_head own all_sent)) v open_client is stands none =
+      let used : Used = server_in own v in
+      let final = (answers_in flow.request v).final in
+      let P : Bool → Type 0 = λ b. or_leaves b (ends_early flow closed_message v.now used true) (look_answer flow final v.now used v.closed) ≡ NotYet in
+      begun_kept flow.request v final
+      (answer_none flow final v.now used v.closed (none_found (ends_early flow closed_message v.now used true) (look_answer flow final v.now used v.closed) (subst P open_client is)))
+  none_kept (busy at flow (response_head own going_up)) v open_client is stands none = absurd (let e : Some own ≡ None = none in cc)
+  none_kept (busy at flow (response_body own all_sent most)) v open_client is stands none =
+      let used : Used = server_in own v in
+      let final = (answers_in flow.request v).final in
+      let P : Bool → Type 0 = λ b. or_leaves b (ends_early (without_response flow) closed_message v.now used true) (look_returned flow final v.now used v.closed) ≡ NotYet in
+      ended_kept flow.request v final
+      (returned_none flow final v.now used v.closed (none_found (ends_early (without_response flow) closed_message v.now used true) (look_returned flow final v.now used v.closed) (subst P open_client is)))
+  none_kept (busy at flow (response_body own going_up most)) v open_client is stands none = absurd (let e : Some own ≡ None = none in cc)
+  none_kept (busy at flow (coming_down own how)) v open_client is stands none = ap (λ c. keeps_coming flow.request v c) (not_came at flow own how v stands)
+  none_kept (busy at flow (upgraded own)) v open_client is stands none = refl
+  none_kept (busy at flow given_head) v open_client is stands none = refl
+  none_kept (busy at flow given_body) v open_client is stands none = refl
+  none_kept (next at) v open_client is stands none = refl
+  none_kept over v open_client is stands none = refl
+
+pub still_unkept : (terms : Terms) (onward : Stage → Stage) → IsOnward onward → (place : Standing) (prefix : List (Timed Event)) → look_over terms place prefix ≡ NotYet →
+    passed_over onward terms place prefix ≡ place → NoneGoesUp place.stage → keeps_behind place.stage (sight_over place prefix) ≡ false
+still_unkept terms onward goes place prefix is settled none =
+    let v : Sight = sight_over place prefix in
+    none_kept terms place.stage v (open_still terms place.stage v is) is
+    (sym (onward_comes onward goes (pass terms place.stage v).stage) ∙ ap (λ (p : Standing). comes_at p.stage) settled) none
 
 -- Where nothing was found and the stage stays, a piece that is worked off leaves none behind it that would not wait so.
 pub beside_more : (see : ℕ → ℕ) (terms : Terms) (onward : Stage → Stage) → IsOnward onward → (side : Side) (bytes : List ℕ) (place : Standing) (prefix : List (Timed Event)) (e : Timed Event) →
@@ -630,8 +669,8 @@ beside_more see terms onward goes side bytes place prefix e is_piece may is sett
     let piece : Event = events.Piece side bytes in
     let moment : ℕ = moment_at see stage e.moment in
     let open_client : client_closed prefix ≡ false = open_still terms stage v is in
-    let stands : comes_beside (pass terms stage v).stage ≡ comes_beside stage =
-    sym (onward_comes onward goes (pass terms stage v).stage) ∙ ap (λ (p : Standing). comes_beside p.stage) settled in
+    let stands : comes_at (pass terms stage v).stage ≡ comes_at stage =
+    sym (onward_comes onward goes (pass terms stage v).stage) ∙ ap (λ (p : Standing). comes_at p.stage) settled in
     subst (λ x. WaitsBeside side stage x)
     (sym (shown_more see terms place prefix e may open_client ∙ ap (λ x. sight_with own (shown_over see place prefix) x moment) is_piece))
     (beside_on side stage (hears own v piece) moment (more_beside terms bytes side stage v open_client is stands))

@@ -29,16 +29,16 @@ use Rattle.px_exchange.specs.Places.{is_same_address, server_for}
 use Rattle.px_exchange.specs.Replies.{taken_at_request_body, taken_at_request_head, taken_at_response_body, taken_at_response_head}
 use Rattle.px_exchange.specs.Requests.{expects, flow_of, judged}
 use Rattle.px_chain.specs.Behind.{dials_at, server_behind, shut_behind, sight_behind}
-use Rattle.px_chain.specs.Chain.{IsOnward, begin, begin_up, begins_going, behind_flow, come_down, dial_leads, end_by, end_up, finish_by, given_at, goes_on_by, goes_up_by, going_at, gone, gone_by, gone_up, is_alone, is_sequence, parked_for, pass, pass_came, pass_given, pass_going, pass_kept, past_came, past_kept, sequence, side_if, sight_begun, sight_come, sight_ended, sight_gone, sight_past, stands, turn, turn_answer, turn_answer_head, turn_body, turn_given_head, turn_head, turn_judged, turn_read_whole, turn_response, turn_returned, turn_taken_answer, turn_taken_body, turn_taken_given, turn_taken_head, turn_taken_returned, turn_taken_whole, turn_whole_answer}
+use Rattle.px_chain.specs.Chain.{IsOnward, begin, begin_up, behind_flow, come_down, dial_leads, end_by, end_up, finish_by, given_at, goes_on_by, goes_up_by, going_at, gone, gone_by, gone_up, is_alone, is_sequence, keeps_came, parked_for, pass, pass_came, pass_given, pass_going, pass_kept, past_came, past_kept, sequence, side_if, sight_begun, sight_come, sight_ended, sight_gone, sight_past, stands, turn, turn_answer, turn_answer_head, turn_body, turn_given_head, turn_head, turn_judged, turn_read_whole, turn_response, turn_returned, turn_taken_answer, turn_taken_body, turn_taken_given, turn_taken_head, turn_taken_returned, turn_taken_whole, turn_unspoilt, turn_whole_answer}
+use Rattle.px_chain.specs.Keeping.{is_silent, keeps_side, parks, unspoilt, unspoilt_by}
 use Rattle.px_chain.specs.Sights.{Sight, Standing, answers_in, client_left, request_in, server_in, server_left, server_parked, server_with, shut_with, sight_over, sight_with}
 use Rattle.px_chain.specs.Silent.{ParkedBelow}
-use Rattle.px_chain.specs.Stages.{At, Parked, Stage, all_sent, busy, coming_down, connection, given_body, given_head, going_up, idle, next, over, place_of, request_body, response_body, response_head, side_of, side_parked, Sent, unparked, upgraded, Doing}
+use Rattle.px_chain.specs.Stages.{At, Parked, Stage, all_sent, busy, coming_down, connection, given_body, given_head, going_up, idle, next, over, place_of, request_body, response_body, response_head, side_in, side_of, side_parked, Sent, upgraded, Doing}
 use Rattle.px_event.specs.Sides.{piece_of}
 use Rattle.px_chain.specs.Streams.{client_closed}
 use Rattle.px_chain.proofs.SightLaws.{IsSideFrom, is_new, no_side, onward_from, same_server, sight_more, sight_passed, up_uses, within_more, within_passed, within_stood}
-use Rattle.px_chain.specs.Going.{allowed_up_by, is_sent, sending_on, told_behind, whole_in, with_whole}
-use Rattle.px_cuts.specs.Alike.{MayBeCut, of_apart, of_client}
-use Rattle.px_cuts.specs.Cuts.{DialledBefore, GoesUpApart, IsDialled, KeepsRequest, MayBeHeard, MayStand, none_parked, none_streamed, parked_at}
+use Rattle.px_chain.specs.Going.{allowed_up_by, goes_up, is_sent, sending_on, told_behind, whole_in, with_whole}
+use Rattle.px_cuts.specs.Cuts.{DialledBefore, IsDialled, MayBeHeard, MayStand}
 use Rattle.px_cuts.specs.Shown.{hears, moment_at, passed_over, retimed_sight, retimed_stage, shown_over, shown_sight}
 use Rattle.px_chain.specs.Coming.{Came, allowed_by, came_in, goes_on_behind, streaming, streams_in}
 use Rattle.px_cuts.proofs.ShownLaws.{begun_left, begun_shown, ended_left, ended_shown, pass_shown}
@@ -122,36 +122,22 @@ begins terms at below =
 -- ---- from a stage to another
 
 module _ (terms : Terms) where
-  -- The other has dialled as many servers or more, and the side that it has is of one of them. Where no side was parked none is, and where
-  -- no request is streamed none was allowed a size.
+  -- The other has dialled as many servers or more, and the side that it has is of one of them.
   pub record Leads (s t : Stage) : Type 0 where
     pub dialled : (server : ℕ) → IsDialled server s → IsDialled server t
     pub before : DialledBefore (side_of s) (place_of s).dials → DialledBefore (side_of t) (place_of t).dials
-    pub alone : parked_at s ≡ None → parked_at t ≡ None
-    pub keeps : terms.streams ≡ false → KeepsRequest s → KeepsRequest t
 
   stays : (s : Stage) → Leads s s
-  stays s = record { dialled = λ server is. is; before = λ is. is; alone = λ is. is; keeps = λ none kept. kept }
+  stays s = record { dialled = λ server is. is; before = λ is. is }
 
   leads_over : (s : Stage) → Leads s over
-  leads_over s = record { dialled = λ server is. tt; before = λ is. tt; alone = λ is. refl; keeps = λ none kept. tt }
+  leads_over s = record { dialled = λ server is. tt; before = λ is. tt }
 
   leads_both : (s t u : Stage) → Leads s t → Leads t u → Leads s u
   leads_both s t u first second = record {
     dialled = λ server is. second.dialled server (first.dialled server is);
     before = λ is. second.before (first.before is);
-    alone = λ is. second.alone (first.alone is);
-    keeps = λ none kept. second.keeps none (first.keeps none kept);
   }
-
-  -- so a request that goes up goes apart
-  apart_on : (s t : Stage) → Leads s t → GoesUpApart terms s → GoesUpApart terms t
-  apart_on s t leads (none_parked is) = none_parked (leads.alone is)
-  apart_on s t leads (none_streamed none kept) = none_streamed none (leads.keeps none kept)
-
-  pub cut_on : (side : Side) (s t : Stage) → Leads s t → MayBeCut terms side s → MayBeCut terms side t
-  cut_on side s t leads (of_client is) = of_client is
-  cut_on side s t leads (of_apart apart) = of_apart (apart_on s t leads apart)
 
   -- ---- where it passes
 
@@ -159,7 +145,7 @@ module _ (terms : Terms) where
       Leads (busy at flow (request_body (Some response) most)) (pass_given at flow response most item now)
   given_passes at flow response most missing now = stays (busy at flow (request_body (Some response) most))
   given_passes at flow response most (part head body) now = stays (busy at flow (request_body (Some response) most))
-  given_passes at flow response most (complete head body trailers used) now = record { dialled = λ server is. is; before = λ is. is; alone = λ is. is; keeps = λ none kept. tt }
+  given_passes at flow response most (complete head body trailers used) now = record { dialled = λ server is. is; before = λ is. is }
   given_passes at flow response most (bad_head fault) now = stays (busy at flow (request_body (Some response) most))
   given_passes at flow response most (bad_body fault head body) now = stays (busy at flow (request_body (Some response) most))
 
@@ -168,21 +154,26 @@ module _ (terms : Terms) where
       Leads (busy at flow (request_body None most)) (goes_up_by (side_if to_it parked.server) terms.place at other)
   up_by_side true parked at flow other most is =
       let P : Option Parked → Type 0 = λ p. DialledBefore (side_parked p) at.dials → parked.server < at.dials in
-      record { dialled = λ server there. there; before = subst P (sym is) (λ there. there); alone = λ none. refl; keeps = λ none kept. tt }
-  up_by_side false parked at flow other most is = record { dialled = λ server is. is; before = λ is. is; alone = λ is. is; keeps = λ none kept. tt }
+      record { dialled = λ server there. there; before = subst P (sym is) (λ there. there) }
+  up_by_side false parked at flow other most is = record { dialled = λ server is. is; before = λ is. is }
 
   up_by : (request : Request) (parked : Option Parked) (at : At) (flow other : Flow) (most : Option ℕ) → at.parked ≡ parked →
       Leads (busy at flow (request_body None most)) (goes_up_by (parked_for terms.place request parked) terms.place at other)
-  up_by request None at flow other most is = record { dialled = λ server is. is; before = λ is. is; alone = λ is. is; keeps = λ none kept. tt }
+  up_by request None at flow other most is = record { dialled = λ server is. is; before = λ is. is }
   up_by request (Some parked) at flow other most is = up_by_side (is_same_address parked.address (server_for terms.place request)) parked at flow other most is
 
-  going_passes : (up : Bool) (at : At) (flow : Flow) (most : Option ℕ) → Leads (busy at flow (request_body None most)) (pass_going up terms.place at flow most)
-  going_passes true at flow most = up_by flow.request at.parked at flow (sending_on flow) most refl
-  going_passes false at flow most = stays (busy at flow (request_body None most))
+  up_unspoilt : (silent : Bool) (at : At) (flow other : Flow) (most : Option ℕ) →
+      Leads (busy at flow (request_body None most)) (goes_up_by (parked_for terms.place flow.request (unspoilt_by silent at.parked)) terms.place at other)
+  up_unspoilt true at flow other most = up_by flow.request at.parked at flow other most refl
+  up_unspoilt false at flow other most = record { dialled = λ server is. is; before = λ is. is }
+
+  going_passes : (up : Bool) (at : At) (flow : Flow) (most : Option ℕ) (seen : Sight) → Leads (busy at flow (request_body None most)) (pass_going up terms.place at flow most seen)
+  going_passes true at flow most seen = up_unspoilt (is_silent seen.server seen.shut) at flow (sending_on flow) most
+  going_passes false at flow most seen = stays (busy at flow (request_body None most))
 
   begin_leads : (stage : Stage) (seen : Sight) → Leads stage (begin_up terms stage seen)
   begin_leads (idle at) seen = stays (idle at)
-  begin_leads (busy at flow (request_body None most)) seen = going_passes (begins_going terms.place at flow most seen) at flow most
+  begin_leads (busy at flow (request_body None most)) seen = going_passes (goes_up most seen) at flow most seen
   begin_leads (busy at flow (request_body (Some response) most)) seen = given_passes at flow response most (request_in seen) seen.now
   begin_leads (busy at flow (connection how)) seen = stays (busy at flow (connection how))
   begin_leads (busy at flow (response_head side how)) seen = stays (busy at flow (response_head side how))
@@ -195,15 +186,15 @@ module _ (terms : Terms) where
   begin_leads over seen = stays over
 
   gone_leads : (at : At) (flow other : Flow) (doing : Doing) → Leads (busy at flow doing) (busy at other (gone doing))
-  gone_leads at flow other (request_body None most) = record { dialled = λ server is. is; before = λ is. is; alone = λ is. is; keeps = λ none kept. kept }
-  gone_leads at flow other (request_body (Some response) most) = record { dialled = λ server is. is; before = λ is. is; alone = λ is. is; keeps = λ none kept. tt }
-  gone_leads at flow other (connection how) = record { dialled = λ server is. is; before = λ is. is; alone = λ is. is; keeps = λ none kept. tt }
-  gone_leads at flow other (response_head side how) = record { dialled = λ server is. is; before = λ is. is; alone = λ is. is; keeps = λ none kept. tt }
-  gone_leads at flow other (response_body side how most) = record { dialled = λ server is. is; before = λ is. is; alone = λ is. is; keeps = λ none kept. tt }
-  gone_leads at flow other (coming_down side how) = record { dialled = λ server is. is; before = λ is. is; alone = λ is. is; keeps = λ none kept. tt }
-  gone_leads at flow other (upgraded side) = record { dialled = λ server is. is; before = λ is. is; alone = λ is. is; keeps = λ none kept. tt }
-  gone_leads at flow other given_head = record { dialled = λ server is. is; before = λ is. is; alone = λ is. is; keeps = λ none kept. tt }
-  gone_leads at flow other given_body = record { dialled = λ server is. is; before = λ is. is; alone = λ is. is; keeps = λ none kept. tt }
+  gone_leads at flow other (request_body None most) = record { dialled = λ server is. is; before = λ is. is }
+  gone_leads at flow other (request_body (Some response) most) = record { dialled = λ server is. is; before = λ is. is }
+  gone_leads at flow other (connection how) = record { dialled = λ server is. is; before = λ is. is }
+  gone_leads at flow other (response_head side how) = record { dialled = λ server is. is; before = λ is. is }
+  gone_leads at flow other (response_body side how most) = record { dialled = λ server is. is; before = λ is. is }
+  gone_leads at flow other (coming_down side how) = record { dialled = λ server is. is; before = λ is. is }
+  gone_leads at flow other (upgraded side) = record { dialled = λ server is. is; before = λ is. is }
+  gone_leads at flow other given_head = record { dialled = λ server is. is; before = λ is. is }
+  gone_leads at flow other given_body = record { dialled = λ server is. is; before = λ is. is }
 
   end_by_leads : (going : Option ℕ) (at : At) (flow : Flow) (doing : Doing) (seen : Sight) → Leads (busy at flow doing) (end_by going terms.place at flow doing seen).stage
   end_by_leads None at flow doing seen = stays (busy at flow doing)
@@ -215,20 +206,24 @@ module _ (terms : Terms) where
   end_leads (next at) seen = stays (next at)
   end_leads over seen = stays over
 
-  finished_passes : (stays_on : Bool) (at : At) (flow : Flow) (doing : Doing) → Leads (busy at flow doing) (behind_flow stays_on (unparked at))
-  finished_passes true at flow doing = record { dialled = λ server is. is; before = λ is. tt; alone = λ is. refl; keeps = λ none kept. tt }
-  finished_passes false at flow doing = leads_over (busy at flow doing)
+  -- behind a flow that used a side, which is kept or closed
+  own_behind : (stays_on kept : Bool) (at : At) (flow : Flow) (doing : Doing) (request : Request) (side : ℕ) →
+      (DialledBefore (side_in at doing) at.dials → side < at.dials) → Leads (busy at flow doing) (behind_flow stays_on (parks kept terms.place at request side))
+  own_behind true true at flow doing request side own = record { dialled = λ server is. is; before = own }
+  own_behind true false at flow doing request side own = record { dialled = λ server is. is; before = λ is. tt }
+  own_behind false kept at flow doing request side own = leads_over (busy at flow doing)
 
   came_passes : (at : At) (flow : Flow) (side : ℕ) (how : Sent) (seen : Sight) (came : Option Came) →
       Leads (busy at flow (coming_down side how)) (pass_came terms.place at flow side how seen came).stage
   came_passes at flow side how seen None = stays (busy at flow (coming_down side how))
-  came_passes at flow side how seen (Some came) = finished_passes (is_sent how && goes_on_behind at.flow flow.request came) at flow (coming_down side how)
+  came_passes at flow side how seen (Some came) =
+      own_behind (is_sent how && goes_on_behind at.flow flow.request came) (keeps_came at flow how seen came) at flow (coming_down side how) flow.request side (λ is. is)
 
   kept_passes : (streams : Bool) (at : At) (flow : Flow) (side : ℕ) (how : Sent) (most : Option ℕ) (seen : Sight) →
       Leads (busy at flow (response_body side how most)) (pass_kept streams terms.place at flow side how most seen).stage
   kept_passes true at flow side how most seen =
       let leads = came_passes at (streaming flow) side how seen (came_in (streaming flow) seen) in
-      record { dialled = leads.dialled; before = leads.before; alone = leads.alone; keeps = leads.keeps }
+      record { dialled = leads.dialled; before = leads.before }
   kept_passes false at flow side how most seen = stays (busy at flow (response_body side how most))
 
   come_leads : (stage : Stage) (seen : Sight) → Leads stage (come_down terms stage seen).stage
@@ -253,19 +248,18 @@ module _ (terms : Terms) where
 
   -- ---- each turn
 
-  head_taken : (at : At) (flow : Flow) (expected : Bool) (most : Option ℕ) (taken : Taken Request) (moment : ℕ) (seen : Sight) → (terms.streams ≡ false → most ≡ None) →
+  head_taken : (at : At) (flow : Flow) (expected : Bool) (most : Option ℕ) (taken : Taken Request) (moment : ℕ) (seen : Sight) →
       Leads (idle at) (turn_taken_head at flow expected most taken moment seen).stage
-  head_taken at flow expected most (GoesOn request) moment seen small =
-      record { dialled = λ server is. is; before = λ is. is; alone = λ is. is; keeps = λ none kept. small none }
-  head_taken at flow expected most (Responds response) moment seen small = record { dialled = λ server is. is; before = λ is. is; alone = λ is. is; keeps = λ none kept. tt }
-  head_taken at flow expected most Kills moment seen small = leads_over (idle at)
+  head_taken at flow expected most (GoesOn request) moment seen =
+      record { dialled = λ server is. is; before = λ is. is }
+  head_taken at flow expected most (Responds response) moment seen = record { dialled = λ server is. is; before = λ is. is }
+  head_taken at flow expected most Kills moment seen = leads_over (idle at)
 
   head_judged : (at : At) (head : ReadRequest) (j : Judged) (seen : Sight) (answer : Timed Reply) → Leads (idle at) (turn_judged terms at head j seen answer).stage
   head_judged at head (Refused fault) seen answer = leads_over (idle at)
   head_judged at head (Connects address) seen answer = leads_over (idle at)
   head_judged at head (Accepted request) seen answer =
       head_taken at (flow_of terms at.flow request seen.now) (expects head) (allowed_up_by terms.streams answer.value) (taken_at_request_head request answer.value) answer.moment seen
-      (λ none. ap (λ b. allowed_up_by b answer.value) none)
 
   head_turned : (at : At) (item : Item ReadRequest) (seen : Sight) (answer : Timed Reply) → Leads (idle at) (turn_head terms at item seen answer).stage
   head_turned at missing seen answer = leads_over (idle at)
@@ -283,18 +277,18 @@ module _ (terms : Terms) where
         Leads from_request (goes_on_by (side_if to_it parked.server) place at other).stage
     goes_on_by_side true parked other is =
         let P : Option Parked → Type 0 = λ p. DialledBefore (side_parked p) at.dials → parked.server < at.dials in
-        record { dialled = λ server there. there; before = subst P (sym is) (λ there. there); alone = λ none. refl; keeps = λ none kept. tt }
-    goes_on_by_side false parked other is = record { dialled = λ server is. is; before = λ is. is; alone = λ is. is; keeps = λ none kept. tt }
+        record { dialled = λ server there. there; before = subst P (sym is) (λ there. there) }
+    goes_on_by_side false parked other is = record { dialled = λ server is. is; before = λ is. is }
 
     goes_on : (request : Request) (parked : Option Parked) (other : Flow) → at.parked ≡ parked →
         Leads from_request (goes_on_by (parked_for place request parked) place at other).stage
-    goes_on request None other is = record { dialled = λ server is. is; before = λ is. is; alone = λ is. is; keeps = λ none kept. tt }
+    goes_on request None other is = record { dialled = λ server is. is; before = λ is. is }
     goes_on request (Some parked) other is = goes_on_by_side (is_same_address parked.address (server_for place request)) parked other is
 
     body_taken : (other : Flow) (taken : Taken Request) (moment : ℕ) (seen : Sight) →
         Leads from_request (turn_taken_body place at other taken moment seen).stage
     body_taken other (GoesOn request) moment seen = goes_on request at.parked (record other { request = request }) refl
-    body_taken other (Responds response) moment seen = record { dialled = λ server is. is; before = λ is. is; alone = λ is. is; keeps = λ none kept. tt }
+    body_taken other (Responds response) moment seen = record { dialled = λ server is. is; before = λ is. is }
     body_taken other Kills moment seen = leads_over from_request
 
     body_turned : (item : Item ReadRequest) (seen : Sight) (answer : Timed Reply) → Leads from_request (turn_body place at flow item seen answer).stage
@@ -308,7 +302,7 @@ module _ (terms : Terms) where
 
   -- the server's side is new
   dial_turned : (to : Place) (at : At) (flow : Flow) (how : Sent) (value : Reply) → Leads (busy at flow (connection how)) (dial_leads to at flow how value)
-  dial_turned to at flow how reply.Dialled = record { dialled = λ server is. omega arith; before = λ is. omega arith; alone = λ is. refl; keeps = λ none kept. tt }
+  dial_turned to at flow how reply.Dialled = record { dialled = λ server is. omega arith; before = λ is. omega arith }
   dial_turned to at flow how (reply.Refused fault) = leads_over (busy at flow (connection how))
   dial_turned to at flow how (reply.Go given stream) = leads_over (busy at flow (connection how))
   dial_turned to at flow how (reply.Respond response) = leads_over (busy at flow (connection how))
@@ -317,9 +311,9 @@ module _ (terms : Terms) where
 
   -- where the flow leads that stands here, from a stage whose side is the parked one or is left
   module _ (at : At) (s : Stage) (dials : (server : ℕ) → IsDialled server s → server < at.dials)
-      (side : DialledBefore (side_of s) (place_of s).dials → DialledBefore (side_parked at.parked) at.dials) (alone : parked_at s ≡ None → at.parked ≡ None) where
+      (side : DialledBefore (side_of s) (place_of s).dials → DialledBefore (side_parked at.parked) at.dials) where
     flow_finished : (stays_on : Bool) → Leads s (behind_flow stays_on at)
-    flow_finished true = record { dialled = dials; before = side; alone = alone; keeps = λ none kept. tt }
+    flow_finished true = record { dialled = dials; before = side }
     flow_finished false = leads_over s
 
     returned_taken : (other : Flow) (taken : Taken Response) (moment : ℕ) (parked : Used) (closed : Bool) → Leads s (turn_taken_returned at other taken moment parked closed).stage
@@ -328,7 +322,7 @@ module _ (terms : Terms) where
     returned_taken other Kills moment parked closed = leads_over s
 
     given_taken : (other : Flow) (taken : Taken Response) (moment : ℕ) (parked : Used) (closed : Bool) → Leads s (turn_taken_given at other taken moment parked closed).stage
-    given_taken other (GoesOn response) moment parked closed = record { dialled = dials; before = side; alone = alone; keeps = λ none kept. tt }
+    given_taken other (GoesOn response) moment parked closed = record { dialled = dials; before = side }
     given_taken other (Responds response) moment parked closed = leads_over s
     given_taken other Kills moment parked closed = leads_over s
 
@@ -342,14 +336,14 @@ module _ (terms : Terms) where
   whole_turned at flow other answer parked closed =
       response_turned (busy at flow given_body) other.response (λ response. taken_at_response_body response answer.value)
       (λ taken. turn_taken_returned at other taken answer.moment parked closed)
-      (λ taken. returned_taken at (busy at flow given_body) (λ server is. is) (λ is. is) (λ is. is) other taken answer.moment parked closed)
+      (λ taken. returned_taken at (busy at flow given_body) (λ server is. is) (λ is. is) other taken answer.moment parked closed)
 
   given_turned : (at : At) (flow other : Flow) (answer : Timed Reply) (parked : Used) (closed : Bool) →
       Leads (busy at flow given_head) (turn_given_head at other answer parked closed).stage
   given_turned at flow other answer parked closed =
       response_turned (busy at flow given_head) other.response (λ response. taken_at_response_head response answer.value)
       (λ taken. turn_taken_given at other taken answer.moment parked closed)
-      (λ taken. given_taken at (busy at flow given_head) (λ server is. is) (λ is. is) (λ is. is) other taken answer.moment parked closed)
+      (λ taken. given_taken at (busy at flow given_head) (λ server is. is) (λ is. is) other taken answer.moment parked closed)
 
   -- the server's side stays
   module _ (at : At) (flow : Flow) (side : ℕ) (how : Sent) where
@@ -358,7 +352,7 @@ module _ (terms : Terms) where
 
     answer_taken : (other : Flow) (most : Option ℕ) (taken : Taken Response) (moment : ℕ) (used : Used) (closed : Bool) →
         Leads from_head (turn_taken_answer at other side how most taken moment used closed).stage
-    answer_taken other most (GoesOn response) moment used closed = record { dialled = λ server is. is; before = λ is. is; alone = λ is. is; keeps = λ none kept. tt }
+    answer_taken other most (GoesOn response) moment used closed = record { dialled = λ server is. is; before = λ is. is }
     answer_taken other most (Responds response) moment used closed = leads_over from_head
     answer_taken other most Kills moment used closed = leads_over from_head
 
@@ -378,52 +372,75 @@ module _ (terms : Terms) where
     from_body = busy at flow (response_body side how most)
 
     -- also where it switches protocols
-    finish_turned : (switches : Bool) (other : Flow) (response : Response) (used : Used) (closed : Bool) →
-        Leads from_body (finish_by switches at other how response side used closed).stage
-    finish_turned true other response used closed = record { dialled = λ server is. is; before = λ is. is; alone = λ is. is; keeps = λ none kept. tt }
-    finish_turned false other response used closed =
-        flow_finished (unparked at) from_body (λ server is. is) (λ is. tt) (λ is. refl) (is_sent how && connection_goes_on at.flow other.request response)
+    finish_turned : (switches : Bool) (other : Flow) (response : Response) (keeps : Bool) (used : Used) (closed : Bool) →
+        Leads from_body (finish_by switches terms.place at other how response keeps side used closed).stage
+    finish_turned true other response keeps used closed = record { dialled = λ server is. is; before = λ is. is }
+    finish_turned false other response keeps used closed =
+        let goes_on : Bool = is_sent how && connection_goes_on at.flow other.request response in
+        own_behind goes_on (goes_on && keeps) at flow (response_body side how most) other.request side (λ is. is)
 
-    taken_whole_turned : (other : Flow) (taken : Taken Response) (moment : ℕ) (used : Used) (closed : Bool) →
-        Leads from_body (turn_taken_whole at other side how taken moment used closed).stage
-    taken_whole_turned other (GoesOn response) moment used closed = finish_turned (is_sent how && response.status == 101) other response used closed
-    taken_whole_turned other (Responds response) moment used closed = leads_over from_body
-    taken_whole_turned other Kills moment used closed = leads_over from_body
+    taken_whole_turned : (other : Flow) (keeps : Bool) (taken : Taken Response) (moment : ℕ) (used : Used) (closed : Bool) →
+        Leads from_body (turn_taken_whole terms.place at other side how keeps taken moment used closed).stage
+    taken_whole_turned other keeps (GoesOn response) moment used closed = finish_turned (is_sent how && response.status == 101) other response keeps used closed
+    taken_whole_turned other keeps (Responds response) moment used closed = leads_over from_body
+    taken_whole_turned other keeps Kills moment used closed = leads_over from_body
 
-    read_whole_turned : (other : Flow) (answer : Timed Reply) (used : Used) (closed : Bool) →
-        Leads from_body (turn_read_whole at other side how answer used closed).stage
-    read_whole_turned other answer used closed =
+    read_whole_turned : (other : Flow) (keeps : Bool) (answer : Timed Reply) (used : Used) (closed : Bool) →
+        Leads from_body (turn_read_whole terms.place at other side how keeps answer used closed).stage
+    read_whole_turned other keeps answer used closed =
         response_turned from_body other.response (λ response. taken_at_response_body response answer.value)
-        (λ taken. turn_taken_whole at other side how taken answer.moment used closed)
-        (λ taken. taken_whole_turned other taken answer.moment used closed)
+        (λ taken. turn_taken_whole terms.place at other side how keeps taken answer.moment used closed)
+        (λ taken. taken_whole_turned other keeps taken answer.moment used closed)
 
-    returned_turned : (item : Item ReadResponse) (seen : Sight) (answer : Timed Reply) → Leads from_body (turn_returned at flow side how item seen answer).stage
+    returned_turned : (item : Item ReadResponse) (seen : Sight) (answer : Timed Reply) → Leads from_body (turn_returned terms.place at flow side how item seen answer).stage
     returned_turned missing seen answer = leads_over from_body
     returned_turned (part head body) seen answer = leads_over from_body
     returned_turned (complete head body trailers size) seen answer =
-        read_whole_turned (with_returned flow body.content trailers seen.now) answer (server_in side seen) seen.closed
+        read_whole_turned (with_returned flow body.content trailers seen.now) (keeps_side flow.request seen head) answer (server_in side seen) seen.closed
     returned_turned (bad_head fault) seen answer = leads_over from_body
     returned_turned (bad_body fault head body) seen answer = leads_over from_body
 
+  -- where a side's keeping has ended
+  parked_before : (silent : Bool) (parked : Option Parked) (dials : ℕ) → DialledBefore (side_parked parked) dials → DialledBefore (side_parked (unspoilt_by silent parked)) dials
+  parked_before true parked dials is = is
+  parked_before false parked dials is = tt
+
+  unspoilt_leads : (stage : Stage) (seen : Sight) → Leads stage (unspoilt stage seen)
+  unspoilt_leads (idle at) seen = record { dialled = λ server is. is; before = parked_before (is_silent seen.server seen.shut) at.parked at.dials }
+  unspoilt_leads (busy at flow (request_body given most)) seen = record { dialled = λ server is. is; before = parked_before (is_silent seen.server seen.shut) at.parked at.dials }
+  unspoilt_leads (busy at flow (connection how)) seen = record { dialled = λ server is. is; before = parked_before (is_silent seen.server seen.shut) at.parked at.dials }
+  unspoilt_leads (busy at flow (response_head side how)) seen = record { dialled = λ server is. is; before = λ is. is }
+  unspoilt_leads (busy at flow (response_body side how most)) seen = record { dialled = λ server is. is; before = λ is. is }
+  unspoilt_leads (busy at flow (coming_down side how)) seen = record { dialled = λ server is. is; before = λ is. is }
+  unspoilt_leads (busy at flow (upgraded side)) seen = record { dialled = λ server is. is; before = λ is. is }
+  unspoilt_leads (busy at flow given_head) seen = record { dialled = λ server is. is; before = parked_before (is_silent seen.server seen.shut) at.parked at.dials }
+  unspoilt_leads (busy at flow given_body) seen = record { dialled = λ server is. is; before = parked_before (is_silent seen.server seen.shut) at.parked at.dials }
+  unspoilt_leads (next at) seen = record { dialled = λ server is. is; before = parked_before (is_silent seen.server seen.shut) at.parked at.dials }
+  unspoilt_leads over seen = stays over
+
+  unspoilt_turned : (stage : Stage) (seen : Sight) (answer : Timed Reply) → Leads stage (turn_unspoilt terms stage seen answer).stage
+  unspoilt_turned (idle at) seen answer = head_turned at (request_in seen) seen answer
+  unspoilt_turned (busy at flow (request_body given most)) seen answer = body_turned terms.place at flow given most (request_in seen) seen answer
+  unspoilt_turned (busy at flow (connection how)) seen answer = dial_turned terms.place at flow how answer.value
+  unspoilt_turned (busy at flow (response_head side how)) seen answer = answer_turned at flow side how (answers_in flow.request seen).final seen answer
+  unspoilt_turned (busy at flow (response_body side how most)) seen answer =
+      returned_turned at flow side how most (answers_in flow.request seen).final seen answer
+  unspoilt_turned (busy at flow (coming_down side how)) seen answer = leads_over (busy at flow (coming_down side how))
+  unspoilt_turned (busy at flow (upgraded side)) seen answer = leads_over (busy at flow (upgraded side))
+  unspoilt_turned (busy at flow given_head) seen answer = given_turned at flow (given_at flow seen.now) answer (server_parked at.parked seen) seen.closed
+  unspoilt_turned (busy at flow given_body) seen answer = whole_turned at flow flow answer (server_parked at.parked seen) seen.closed
+  unspoilt_turned (next at) seen answer = stays (next at)
+  unspoilt_turned over seen answer = stays over
+
   -- Where a reply leads, whatever was asked.
   turned_leads : (stage : Stage) (seen : Sight) (answer : Timed Reply) → Leads stage (turn terms stage seen answer).stage
-  turned_leads (idle at) seen answer = head_turned at (request_in seen) seen answer
-  turned_leads (busy at flow (request_body given most)) seen answer = body_turned terms.place at flow given most (request_in seen) seen answer
-  turned_leads (busy at flow (connection how)) seen answer = dial_turned terms.place at flow how answer.value
-  turned_leads (busy at flow (response_head side how)) seen answer = answer_turned at flow side how (answers_in flow.request seen).final seen answer
-  turned_leads (busy at flow (response_body side how most)) seen answer =
-      returned_turned at flow side how most (answers_in flow.request seen).final seen answer
-  turned_leads (busy at flow (coming_down side how)) seen answer = leads_over (busy at flow (coming_down side how))
-  turned_leads (busy at flow (upgraded side)) seen answer = leads_over (busy at flow (upgraded side))
-  turned_leads (busy at flow given_head) seen answer = given_turned at flow (given_at flow seen.now) answer (server_parked at.parked seen) seen.closed
-  turned_leads (busy at flow given_body) seen answer = whole_turned at flow flow answer (server_parked at.parked seen) seen.closed
-  turned_leads (next at) seen answer = stays (next at)
-  turned_leads over seen answer = stays over
+  turned_leads stage seen answer =
+      leads_both stage (unspoilt stage seen) (turn terms stage seen answer).stage (unspoilt_leads stage seen) (unspoilt_turned (unspoilt stage seen) seen answer)
 
   leads_sequence : (s t : Stage) → Leads s t → Leads s (sequence t)
   leads_sequence s (idle at) leads = leads
   leads_sequence s (busy at flow doing) leads = leads
-  leads_sequence s (next at) leads = record { dialled = leads.dialled; before = leads.before; alone = leads.alone; keeps = λ none kept. tt }
+  leads_sequence s (next at) leads = record { dialled = leads.dialled; before = leads.before }
   leads_sequence s over leads = leads
 
   leads_on : (onward : Stage → Stage) → IsOnward onward → (s t : Stage) → Leads s t → Leads s (onward t)

@@ -1,5 +1,5 @@
 -- All that a stage finds, owes, passes to and turns to, its moments seen so, is that of the stage and the sight seen so.
-use Rattle.std.proofs.Common.{◌≡◌, ℕ, Bool, true, false, List, [], ◌∷◌, ◌++◌, map, Option, Some, None, refl, sym, ap, ◌∙◌}
+use Rattle.std.proofs.Common.{◌≡◌, ℕ, Bool, true, false, List, [], ◌∷◌, ◌++◌, map, Option, Some, None, refl, ap, ◌∙◌}
 use Rattle.std.specs.Prelude.{◌==◌, ◌&&◌, not, if◌then◌else◌}
 use Rattle.std.proofs.lemmas.List.{map-append}
 use Rattle.px_message.specs.declared.fault.Fault.{Fault}
@@ -26,16 +26,17 @@ use Rattle.px_exchange.specs.declared.taken.Taken.{Taken}
 use Rattle.px_exchange.specs.declared.taken.Taken.TheVariants.{GoesOn, Responds, Kills}
 use Rattle.px_exchange.specs.declared.place.Place.{Place}
 use Rattle.px_exchange.specs.declared.terms.Terms.{Terms}
-use Rattle.px_chain.specs.Chain.{bad_or, begin_up, begins_going, behind, behind_flow, come_down, dial_leads, dial_owes_by, end_by, end_up, finish, finish_by, given_at, goes_on_by, goes_up_by, going_at, is_unheard, gone_by, killed, look, look_coming, look_up, parked_for, pass, pass_came, pass_given, pass_going, pass_kept, past_gone, sight_begun, sight_ended, so_far, turn, turn_answer, turn_answer_head, turn_body, turn_given_head, turn_head, turn_judged, turn_read_whole, turn_response, turn_returned, turn_taken_answer, turn_taken_body, turn_taken_given, turn_taken_head, turn_taken_returned, turn_taken_whole, turn_whole_answer}
+use Rattle.px_chain.specs.Chain.{bad_or, begin_up, behind, behind_flow, come_down, dial_leads, dial_owes_by, end_by, end_up, finish, finish_by, given_at, goes_on_by, goes_up_by, going_at, gone_by, keeps_came, killed, look, look_coming, look_up, parked_for, pass, pass_came, pass_given, pass_going, pass_kept, past_gone, sight_begun, sight_ended, so_far, turn, turn_answer, turn_answer_head, turn_body, turn_given_head, turn_head, turn_judged, turn_read_whole, turn_response, turn_returned, turn_taken_answer, turn_taken_body, turn_taken_given, turn_taken_head, turn_taken_returned, turn_taken_whole, turn_whole_answer}
 use Rattle.px_exchange.specs.Flows.{ask_of, response_of, with_answer, with_body, with_end, with_returned}
 use Rattle.px_exchange.specs.Dials.{dial_owes}
 use Rattle.px_exchange.specs.Finds.{is_relayed, look_answer, look_answer_head, look_body, look_head, look_judged, look_returned, or_leaves}
 use Rattle.px_cuts.specs.Cuts.{retimed, retimed_flow}
-use Rattle.px_exchange.specs.Endings.{closed_message, connection_goes_on, ends_by_fault, ends_early, finished, refuses, shut_all, shut_client, shut_server, shut_unless, with_error, without_response}
+use Rattle.px_exchange.specs.Endings.{closed_message, connection_goes_on, ends_by_fault, ends_early, finished, refuses, shut_all, shut_client, shut_server, shut_unless, unless_kept, with_error, without_response}
 use Rattle.px_exchange.specs.Replies.{taken_at_request_body, taken_at_request_head, taken_at_response_head}
 use Rattle.px_exchange.specs.Requests.{expects, flow_of, is_head, is_http11, judged}
 use Rattle.px_cuts.specs.Shown.{retimed_sight, retimed_stage, shown_sight}
-use Rattle.px_chain.specs.Stages.{At, Doing, Parked, Stage, all_sent, busy, coming_down, connection, given_body, given_head, going_up, idle, next, over, request_body, response_body, response_head, unparked, upgraded, Sent}
+use Rattle.px_chain.specs.Keeping.{keeps_side, parks, shut_by_byte, shut_stray, unspoilt_at}
+use Rattle.px_chain.specs.Stages.{At, Doing, Parked, Stage, all_sent, busy, coming_down, connection, given_body, given_head, going_up, idle, next, over, request_body, response_body, response_head, upgraded, Sent}
 use Rattle.px_chain.specs.Sights.{Sight, answers_in, request_in, server_in, server_parked}
 use Rattle.px_exchange.specs.Texts.{interim_command}
 use Rattle.px_chain.proofs.ChainLaws.{behind_turn}
@@ -184,17 +185,19 @@ module _ (see : ℕ → ℕ) where
   pub look_shown : (terms : Terms) (stage : Stage) (seen : Sight) →
       retimed_look see (look terms stage seen) ≡ look terms (retimed_stage see stage) (shown_sight see stage seen)
   look_shown terms (idle at) seen =
-      let used : Used = server_parked at.parked seen in
-      looked seen.closed _ _ _ _ (shut_server_seen used ∙ ap (λ u. shut_server u) (parked_seen at.parked seen))
+      let parked : Option Parked = (unspoilt_at at seen).parked in
+      let used : Used = server_parked parked seen in
+      looked seen.closed _ _ _ _ (shut_server_seen used ∙ ap (λ u. shut_server u) (parked_seen parked seen))
       (look_head_seen terms at.flow (request_in seen) seen.now used seen.closed
-      ∙ ap (λ u. look_head terms at.flow (request_in seen) (see seen.now) u seen.closed) (parked_seen at.parked seen))
+      ∙ ap (λ u. look_head terms at.flow (request_in seen) (see seen.now) u seen.closed) (parked_seen parked seen))
   look_shown terms (busy at flow (request_body given most)) seen =
-      let used : Used = server_parked at.parked seen in
+      let parked : Option Parked = (unspoilt_at at seen).parked in
+      let used : Used = server_parked parked seen in
       looked seen.closed _ _ _ _
       (ends_early_seen flow closed_message seen.now used true
-      ∙ ap (λ u. ends_early (retimed_flow see flow) closed_message (see seen.now) u true) (parked_seen at.parked seen))
+      ∙ ap (λ u. ends_early (retimed_flow see flow) closed_message (see seen.now) u true) (parked_seen parked seen))
       (look_body_seen flow (request_in seen) seen.now used seen.closed
-      ∙ ap (λ u. look_body (retimed_flow see flow) (request_in seen) (see seen.now) u seen.closed) (parked_seen at.parked seen))
+      ∙ ap (λ u. look_body (retimed_flow see flow) (request_in seen) (see seen.now) u seen.closed) (parked_seen parked seen))
   look_shown terms (busy at flow (connection how)) seen = refl
   look_shown terms (busy at flow (response_head side how)) seen =
       looked seen.closed _ _ _ _ (ends_early_seen flow closed_message seen.now (server_in side seen) true)
@@ -225,10 +228,19 @@ module _ (see : ℕ → ℕ) where
   interim_by true heads = interim_seen heads
   interim_by false heads = refl
 
+  -- a stray byte is told by no moment
+  byte_seen : (server : ℕ) (bytes : List ℕ) → map (retimed see) (shut_by_byte server bytes ++ []) ≡ shut_by_byte server bytes ++ []
+  byte_seen server [] = refl
+  byte_seen server (byte ∷ more) = refl
+
+  stray_seen : (parked : Option Parked) (seen : Sight) → map (retimed see) (shut_stray parked seen ++ []) ≡ shut_stray parked (retimed_sight see seen) ++ []
+  stray_seen None seen = refl
+  stray_seen (Some parked) seen = byte_seen parked.server seen.server
+
   pub so_far_shown : (terms : Terms) (stage : Stage) (seen : Sight) → map (retimed see) (so_far terms stage seen) ≡ so_far terms (retimed_stage see stage) (shown_sight see stage seen)
-  so_far_shown terms (idle at) seen = refl
-  so_far_shown terms (busy at flow (request_body given most)) seen = refl
-  so_far_shown terms (busy at flow (connection how)) seen = refl
+  so_far_shown terms (idle at) seen = stray_seen at.parked seen
+  so_far_shown terms (busy at flow (request_body given most)) seen = stray_seen at.parked seen
+  so_far_shown terms (busy at flow (connection how)) seen = stray_seen at.parked seen
   so_far_shown terms (busy at flow (response_head side all_sent)) seen = interim_by (is_http11 flow.request.version) (answers_in flow.request seen).interim
   so_far_shown terms (busy at flow (response_head side going_up)) seen = ap (λ l. sends_going terms.place flow side seen ++ l) (interim_by (is_http11 flow.request.version) (answers_in flow.request seen).interim)
   so_far_shown terms (busy at flow (response_body side all_sent most)) seen = refl
@@ -236,9 +248,9 @@ module _ (see : ℕ → ℕ) where
   so_far_shown terms (busy at flow (coming_down side all_sent)) seen = refl
   so_far_shown terms (busy at flow (coming_down side going_up)) seen = refl
   so_far_shown terms (busy at flow (upgraded side)) seen = refl
-  so_far_shown terms (busy at flow given_head) seen = refl
-  so_far_shown terms (busy at flow given_body) seen = refl
-  so_far_shown terms (next at) seen = refl
+  so_far_shown terms (busy at flow given_head) seen = stray_seen at.parked seen
+  so_far_shown terms (busy at flow given_body) seen = stray_seen at.parked seen
+  so_far_shown terms (next at) seen = stray_seen at.parked seen
   so_far_shown terms over seen = refl
 
   -- ---- what is owed behind an ask
@@ -246,7 +258,9 @@ module _ (see : ℕ → ℕ) where
   pub behind_shown : (stage : Stage) (seen : Sight) → map (retimed see) (behind stage seen) ≡ behind (retimed_stage see stage) (shown_sight see stage seen)
   behind_shown (idle at) seen = refl
   behind_shown (busy at flow (request_body given most)) seen = refl
-  behind_shown (busy at flow (connection how)) seen = shut_server_seen (server_parked at.parked seen) ∙ ap (λ u. shut_server u) (parked_seen at.parked seen)
+  behind_shown (busy at flow (connection how)) seen =
+      let parked : Option Parked = (unspoilt_at at seen).parked in
+      shut_server_seen (server_parked parked seen) ∙ ap (λ u. shut_server u) (parked_seen parked seen)
   behind_shown (busy at flow (response_head side how)) seen = refl
   behind_shown (busy at flow (response_body side how most)) seen = refl
   behind_shown (busy at flow (coming_down side how)) seen = refl
@@ -382,20 +396,27 @@ module _ (see : ℕ → ℕ) where
   behind_seen true at = refl
   behind_seen false at = refl
 
-  finish_seen : (at : At) (flow : Flow) (how : Sent) (response : Response) (served parked : Used) (closed : Bool) →
-      retimed_turn see (finish at flow how response served parked closed) ≡ finish at (retimed_flow see flow) how response served parked closed
-  finish_seen at flow how response served parked closed =
-      let stays = is_sent how && connection_goes_on at.flow flow.request response in
+  -- a flow that is finished, of which its side is kept or closed, and the closes behind it
+  ended_seen : (stays : Bool) (at : At) (flow : Flow) (response : Response) (served parked : Used) (closed : Bool) →
+      retimed_turn see (turning (finished flow response served ++ shut_unless stays parked closed) (behind_flow stays at))
+      ≡ turning (finished (retimed_flow see flow) response served ++ shut_unless stays parked closed) (behind_flow stays at)
+  ended_seen stays at flow response served parked closed =
       turning_eq _ _ _ _
       (map-append (retimed see) (finished flow response served) (shut_unless stays parked closed)
       ∙ (ap (λ l. l ++ map (retimed see) (shut_unless stays parked closed)) (finished_seen flow response served)
       ∙ ap (λ l. finished (retimed_flow see flow) response served ++ l) (shut_unless_seen stays parked closed)))
       (behind_seen stays at)
 
+  finish_seen : (place : Place) (at : At) (flow : Flow) (how : Sent) (response : Response) (keeps : Bool) (side : ℕ) (used : Used) (closed : Bool) →
+      retimed_turn see (finish place at flow how response keeps side used closed) ≡ finish place at (retimed_flow see flow) how response keeps side used closed
+  finish_seen place at flow how response keeps side used closed =
+      let stays : Bool = is_sent how && connection_goes_on at.flow flow.request response in
+      ended_seen stays (parks (stays && keeps) place at flow.request side) flow response (unless_kept (stays && keeps) used) NoServer closed
+
   taken_returned_seen : (at : At) (flow : Flow) (taken : Taken Response) (moment : ℕ) (parked : Used) (closed : Bool) →
       retimed_turn see (turn_taken_returned at flow taken moment parked closed)
       ≡ turn_taken_returned at (retimed_flow see flow) taken (see moment) parked closed
-  taken_returned_seen at flow (GoesOn response) moment parked closed = finish_seen at flow all_sent response NoServer parked closed
+  taken_returned_seen at flow (GoesOn response) moment parked closed = ended_seen (connection_goes_on at.flow flow.request response) at flow response NoServer parked closed
   taken_returned_seen at flow (Responds response) moment parked closed = killed_seen flow moment parked closed
   taken_returned_seen at flow Kills moment parked closed = killed_seen flow moment parked closed
 
@@ -419,34 +440,34 @@ module _ (see : ℕ → ℕ) where
       response_seen flow.response _ _ _
       (λ taken. taken_returned_seen at flow taken answer.moment parked closed)
 
-  finish_by_seen : (switches : Bool) (at : At) (flow : Flow) (how : Sent) (response : Response) (side : ℕ) (used : Used) (closed : Bool) →
-      retimed_turn see (finish_by switches at flow how response side used closed) ≡ finish_by switches at (retimed_flow see flow) how response side used closed
-  finish_by_seen true at flow how response side used closed = refl
-  finish_by_seen false at flow how response side used closed = finish_seen (unparked at) flow how response used NoServer closed
+  finish_by_seen : (switches : Bool) (place : Place) (at : At) (flow : Flow) (how : Sent) (response : Response) (keeps : Bool) (side : ℕ) (used : Used) (closed : Bool) →
+      retimed_turn see (finish_by switches place at flow how response keeps side used closed) ≡ finish_by switches place at (retimed_flow see flow) how response keeps side used closed
+  finish_by_seen true place at flow how response keeps side used closed = refl
+  finish_by_seen false place at flow how response keeps side used closed = finish_seen place at flow how response keeps side used closed
 
-  taken_whole_seen : (at : At) (flow : Flow) (side : ℕ) (how : Sent) (taken : Taken Response) (moment : ℕ) (used : Used) (closed : Bool) →
-      retimed_turn see (turn_taken_whole at flow side how taken moment used closed)
-      ≡ turn_taken_whole at (retimed_flow see flow) side how taken (see moment) used closed
-  taken_whole_seen at flow side how (GoesOn response) moment used closed = finish_by_seen (is_sent how && response.status == 101) at flow how response side used closed
-  taken_whole_seen at flow side how (Responds response) moment used closed = killed_seen flow moment used closed
-  taken_whole_seen at flow side how Kills moment used closed = killed_seen flow moment used closed
+  taken_whole_seen : (place : Place) (at : At) (flow : Flow) (side : ℕ) (how : Sent) (keeps : Bool) (taken : Taken Response) (moment : ℕ) (used : Used) (closed : Bool) →
+      retimed_turn see (turn_taken_whole place at flow side how keeps taken moment used closed)
+      ≡ turn_taken_whole place at (retimed_flow see flow) side how keeps taken (see moment) used closed
+  taken_whole_seen place at flow side how keeps (GoesOn response) moment used closed = finish_by_seen (is_sent how && response.status == 101) place at flow how response keeps side used closed
+  taken_whole_seen place at flow side how keeps (Responds response) moment used closed = killed_seen flow moment used closed
+  taken_whole_seen place at flow side how keeps Kills moment used closed = killed_seen flow moment used closed
 
-  read_whole_seen : (at : At) (flow : Flow) (side : ℕ) (how : Sent) (answer : Timed Reply) (used : Used) (closed : Bool) →
-      retimed_turn see (turn_read_whole at flow side how answer used closed)
-      ≡ turn_read_whole at (retimed_flow see flow) side how (retimed_reply see answer) used closed
-  read_whole_seen at flow side how answer used closed =
+  read_whole_seen : (place : Place) (at : At) (flow : Flow) (side : ℕ) (how : Sent) (keeps : Bool) (answer : Timed Reply) (used : Used) (closed : Bool) →
+      retimed_turn see (turn_read_whole place at flow side how keeps answer used closed)
+      ≡ turn_read_whole place at (retimed_flow see flow) side how keeps (retimed_reply see answer) used closed
+  read_whole_seen place at flow side how keeps answer used closed =
       response_seen flow.response _ _ _
-      (λ taken. taken_whole_seen at flow side how taken answer.moment used closed)
+      (λ taken. taken_whole_seen place at flow side how keeps taken answer.moment used closed)
 
-  returned_turn_seen : (at : At) (flow : Flow) (side : ℕ) (how : Sent) (item : Item ReadResponse) (seen : Sight) (answer : Timed Reply) →
-      retimed_turn see (turn_returned at flow side how item seen answer)
-      ≡ turn_returned at (retimed_flow see flow) side how item (retimed_sight see seen) (retimed_reply see answer)
-  returned_turn_seen at flow side how missing seen answer = refl
-  returned_turn_seen at flow side how (part head body) seen answer = refl
-  returned_turn_seen at flow side how (complete head body trailers size) seen answer =
-      read_whole_seen at (with_returned flow body.content trailers seen.now) side how answer (server_in side seen) seen.closed
-  returned_turn_seen at flow side how (bad_head fault) seen answer = refl
-  returned_turn_seen at flow side how (bad_body fault head body) seen answer = refl
+  returned_turn_seen : (place : Place) (at : At) (flow : Flow) (side : ℕ) (how : Sent) (item : Item ReadResponse) (seen : Sight) (answer : Timed Reply) →
+      retimed_turn see (turn_returned place at flow side how item seen answer)
+      ≡ turn_returned place at (retimed_flow see flow) side how item (retimed_sight see seen) (retimed_reply see answer)
+  returned_turn_seen place at flow side how missing seen answer = refl
+  returned_turn_seen place at flow side how (part head body) seen answer = refl
+  returned_turn_seen place at flow side how (complete head body trailers size) seen answer =
+      read_whole_seen place at (with_returned flow body.content trailers seen.now) side how (keeps_side flow.request seen head) answer (server_in side seen) seen.closed
+  returned_turn_seen place at flow side how (bad_head fault) seen answer = refl
+  returned_turn_seen place at flow side how (bad_body fault head body) seen answer = refl
 
   given_turn_seen : (at : At) (flow : Flow) (answer : Timed Reply) (parked : Used) (closed : Bool) →
       retimed_turn see (turn_given_head at flow answer parked closed) ≡ turn_given_head at (retimed_flow see flow) (retimed_reply see answer) parked closed
@@ -456,22 +477,24 @@ module _ (see : ℕ → ℕ) where
 
   pub turn_shown : (terms : Terms) (stage : Stage) (seen : Sight) (answer : Timed Reply) →
       retimed_turn see (turn terms stage seen answer) ≡ turn terms (retimed_stage see stage) (shown_sight see stage seen) (retimed_reply see answer)
-  turn_shown terms (idle at) seen answer = head_turn_seen terms at (request_in seen) seen answer
-  turn_shown terms (busy at flow (request_body given most)) seen answer = body_turn_seen terms.place at flow (request_in seen) seen answer
+  turn_shown terms (idle at) seen answer = head_turn_seen terms (unspoilt_at at seen) (request_in seen) seen answer
+  turn_shown terms (busy at flow (request_body given most)) seen answer = body_turn_seen terms.place (unspoilt_at at seen) flow (request_in seen) seen answer
   turn_shown terms (busy at flow (connection how)) seen answer =
-      turning_eq _ _ _ _ (dial_owed_seen how terms.place flow at.dials answer.value answer.moment seen.closed) (dial_leads_seen terms.place at flow how answer.value)
+      turning_eq _ _ _ _ (dial_owed_seen how terms.place flow at.dials answer.value answer.moment seen.closed) (dial_leads_seen terms.place (unspoilt_at at seen) flow how answer.value)
   turn_shown terms (busy at flow (response_head side how)) seen answer =
-      answer_turn_seen terms at flow side how (answers_in flow.request seen).final seen answer
+      answer_turn_seen terms (unspoilt_at at seen) flow side how (answers_in flow.request seen).final seen answer
   turn_shown terms (busy at flow (response_body side how most)) seen answer =
-      returned_turn_seen at flow side how (answers_in flow.request seen).final seen answer
+      returned_turn_seen terms.place (unspoilt_at at seen) flow side how (answers_in flow.request seen).final seen answer
   turn_shown terms (busy at flow (coming_down side how)) seen answer = refl
   turn_shown terms (busy at flow (upgraded side)) seen answer = refl
   turn_shown terms (busy at flow given_head) seen answer =
-      given_turn_seen at (given_at flow seen.now) answer (server_parked at.parked seen) seen.closed
-      ∙ ap (λ u. turn_given_head at (given_at (retimed_flow see flow) (see seen.now)) (retimed_reply see answer) u seen.closed) (parked_seen at.parked seen)
+      let there : At = unspoilt_at at seen in
+      given_turn_seen there (given_at flow seen.now) answer (server_parked there.parked seen) seen.closed
+      ∙ ap (λ u. turn_given_head there (given_at (retimed_flow see flow) (see seen.now)) (retimed_reply see answer) u seen.closed) (parked_seen there.parked seen)
   turn_shown terms (busy at flow given_body) seen answer =
-      whole_answer_seen at flow answer (server_parked at.parked seen) seen.closed
-      ∙ ap (λ u. turn_whole_answer at (retimed_flow see flow) (retimed_reply see answer) u seen.closed) (parked_seen at.parked seen)
+      let there : At = unspoilt_at at seen in
+      whole_answer_seen there flow answer (server_parked there.parked seen) seen.closed
+      ∙ ap (λ u. turn_whole_answer there (retimed_flow see flow) (retimed_reply see answer) u seen.closed) (parked_seen there.parked seen)
   turn_shown terms (next at) seen answer = refl
   turn_shown terms over seen answer = refl
 
@@ -491,20 +514,14 @@ module _ (see : ℕ → ℕ) where
   goes_up_seen None to at flow = refl
   goes_up_seen (Some side) to at flow = refl
 
-  -- what was seen of a side, whenever
-  unheard_seen : (side : Option ℕ) (seen : Sight) → is_unheard side (retimed_sight see seen) ≡ is_unheard side seen
-  unheard_seen None seen = refl
-  unheard_seen (Some server) seen = refl
-
-  going_seen : (up : Bool) (to : Place) (at : At) (flow : Flow) (most : Option ℕ) → retimed_stage see (pass_going up to at flow most) ≡ pass_going up to at (retimed_flow see flow) most
-  going_seen true to at flow most = goes_up_seen (parked_for to flow.request at.parked) to at (sending_on flow)
-  going_seen false to at flow most = refl
+  going_seen : (up : Bool) (to : Place) (at : At) (flow : Flow) (most : Option ℕ) (seen : Sight) →
+      retimed_stage see (pass_going up to at flow most seen) ≡ pass_going up to at (retimed_flow see flow) most (retimed_sight see seen)
+  going_seen true to at flow most seen = goes_up_seen (parked_for to flow.request (unspoilt_at at seen).parked) to at (sending_on flow)
+  going_seen false to at flow most seen = refl
 
   pub begun_shown : (terms : Terms) (stage : Stage) (seen : Sight) → retimed_stage see (begin_up terms stage seen) ≡ begin_up terms (retimed_stage see stage) (retimed_sight see seen)
   begun_shown terms (idle at) seen = refl
-  begun_shown terms (busy at flow (request_body None most)) seen =
-      going_seen (begins_going terms.place at flow most seen) terms.place at flow most
-      ∙ ap (λ b. pass_going (goes_up most seen && b) terms.place at (retimed_flow see flow) most) (sym (unheard_seen (parked_for terms.place flow.request at.parked) seen))
+  begun_shown terms (busy at flow (request_body None most)) seen = going_seen (goes_up most seen) terms.place at flow most seen
   begun_shown terms (busy at flow (request_body (Some response) most)) seen = given_seen at flow response most (request_in seen) seen.now
   begun_shown terms (busy at flow (connection how)) seen = refl
   begun_shown terms (busy at flow (response_head side how)) seen = refl
@@ -566,7 +583,8 @@ module _ (see : ℕ → ℕ) where
   came_shown to at flow side how seen None = refl
   came_shown to at flow side how seen (Some came) =
       let stays : Bool = is_sent how && goes_on_behind at.flow flow.request came in
-      let used : Used = server_in side seen in
+      let kept : Bool = keeps_came at flow how seen came in
+      let used : Used = unless_kept kept (server_in side seen) in
       let up : List Command = sends_up to flow side how seen in
       let done : List Command = finished_coming flow seen used in
       let shuts : List Command = shut_unless stays NoServer seen.closed in
@@ -577,7 +595,7 @@ module _ (see : ℕ → ℕ) where
       (map-append (retimed see) done shuts
       ∙ (ap (λ l. l ++ map (retimed see) shuts) (finished_seen_so flow seen used)
       ∙ ap (λ l. finished_coming (retimed_flow see flow) (retimed_sight see seen) used ++ l) (shut_unless_seen stays NoServer seen.closed)))))
-      (behind_seen stays (unparked at))
+      (behind_seen stays (parks kept to at flow.request side))
 
   kept_shown : (streams : Bool) (to : Place) (at : At) (flow : Flow) (side : ℕ) (how : Sent) (most : Option ℕ) (seen : Sight) →
       retimed_turn see (pass_kept streams to at flow side how most seen) ≡ pass_kept streams to at (retimed_flow see flow) side how most (retimed_sight see seen)

@@ -1,9 +1,8 @@
 -- What is found stays found with a piece more, by the laws of the readers: an event that waits is heard early.
-use Rattle.std.proofs.Common.{◌≡◌, ℕ, ◌≤◌, Bool, true, false, List, ◌++◌, drop, length, Option, Some, None, refl, ap, sym, ◌∙◌, subst, arith}
+use Rattle.std.proofs.Common.{◌≡◌, ℕ, Bool, true, false, List, ◌++◌, drop, length, Option, Some, None, refl, ap, sym, ◌∙◌, subst}
 use Rattle.std.specs.Prelude.{◌||◌, [], ◌∷◌}
-use Rattle.std.proofs.lemmas.List.{append-nil, drop-append-le, length-drop}
+use Rattle.std.proofs.lemmas.List.{append-nil}
 use Rattle.px_message.specs.declared.flow.Flow.{Flow}
-use Rattle.px_message.specs.declared.request.Request.{Request}
 use Rattle.px_message.specs.declared.response.Response.{Response}
 use Rattle.px_event.specs.declared.command.Command.{Command}
 use Rattle.px_event.specs.declared.event.Event.{Event}
@@ -11,250 +10,38 @@ use Rattle.px_event.specs.declared.event.Event.TheVariants as events
 use Rattle.px_event.specs.declared.reply.Reply.{Reply}
 use Rattle.px_event.specs.declared.side.Side.{Side}
 use Rattle.px_event.specs.declared.side.Side.TheVariants.{Client, Server}
-use Rattle.px_event.specs.Chain.{Timed, Look, NotYet, Asks, Ends}
+use Rattle.px_event.specs.Chain.{Timed, Turn}
 use Rattle.px_event.specs.Laws.{IsFound}
-use Rattle.px_read.specs.Items.{answer_list, Answers, Body, Item, missing, part, complete, bad_head, bad_body, request_item}
-use Rattle.px_read.specs.Laws.{FinalHeadStays, FinalStays, head_in, InterimStay, is_begun, is_decided, RequestHeadStays, RequestStays}
-use Rattle.px_read.specs.declared.head.RequestHead.{RequestHead as ReadRequest}
-use Rattle.px_read.specs.declared.head.ResponseHead.{ResponseHead as ReadResponse}
-use Rattle.px_read.proofs.AnswerLemmas.{answers_used}
+use Rattle.px_read.specs.Items.{answer_list, Answers, request_item}
+use Rattle.px_read.specs.Laws.{head_in, is_begun, is_decided}
 use Rattle.px_read.proofs.ItemLemmas.{request_used}
 use Rattle.px_read.proofs.LawLemmas.{chunk_laws}
-use Rattle.px_exchange.specs.declared.asked.Judged.{Judged}
-use Rattle.px_exchange.specs.declared.asked.Judged.TheVariants.{Refused, Accepted, Connects}
 use Rattle.px_exchange.specs.declared.ending.Used.{Used}
 use Rattle.px_exchange.specs.declared.ending.Used.TheVariants.{ByServer}
-use Rattle.px_exchange.specs.declared.place.Place.{Place}
-use Rattle.px_exchange.specs.declared.taken.Taken.{Taken}
-use Rattle.px_exchange.specs.declared.taken.Taken.TheVariants.{GoesOn, Responds, Kills}
 use Rattle.px_exchange.specs.declared.terms.Terms.{Terms}
-use Rattle.px_exchange.specs.Finds.{look_answer, look_answer_head, look_body, look_head, look_judged, look_returned, or_leaves}
+use Rattle.px_exchange.specs.Finds.{look_answer, look_body, look_head, look_returned, or_leaves}
 use Rattle.px_cuts.specs.Shown.{hears}
-use Rattle.px_cuts.specs.Alike.{IsBeside, WaitsBeside, ends_here, has_ended, is_bad}
-use Rattle.px_cuts.proofs.BesideLaws.{FoundUp, ended_decided, ends_ended, found_up, inner_found, is_answered, is_refused, waits_more, waits_request}
+use Rattle.px_cuts.specs.Alike.{IsBeside, MayBeFollowed, WaitsBeside, ends_here, has_ended, is_bad}
+use Rattle.px_cuts.proofs.FollowLaws.{Aside, OwnAside, RestSame, body_aside, keeps_same, later_server, left_more, left_with, rest_same, rests_aside, shut_piece}
+use Rattle.px_cuts.proofs.BesideLaws.{FoundUp, ended_decided, ends_ended, found_up, inner_found, is_answered, is_refused, not_both, waits_more, waits_request}
 use Rattle.px_cuts.proofs.PlaceLaws.{LeavesMore, make}
-use Rattle.px_exchange.specs.Requests.{expects, flow_of, is_head, judged}
+use Rattle.px_exchange.specs.Requests.{is_head}
 use Rattle.px_exchange.specs.Places.{form_at}
 use Rattle.px_parts.specs.Texts.{left_of}
 use Rattle.px_write.specs.Error.{fault_message}
 use Rattle.px_message.specs.declared.fault.Fault.{Fault}
-use Rattle.px_chain.specs.Going.{allowed_up_by, going_by}
-use Rattle.px_chain.specs.Chain.{bad_or, behind, given_at, killed, look, look_coming, so_far, turn, turn_answer, turn_answer_head, turn_body, turn_given_head, turn_head, turn_judged, turn_returned, turn_taken_body, turn_taken_head, turn_whole_answer}
+use Rattle.px_chain.specs.Going.{going_by}
+use Rattle.px_chain.specs.Chain.{bad_or, behind, given_at, look, look_coming, so_far, turn, turn_answer, turn_body, turn_dial, turn_given_head, turn_head, turn_returned, turn_whole_answer}
+use Rattle.px_chain.specs.Keeping.{is_silent, shut_stray, unspoilt_at, unspoilt_by}
 use Rattle.px_chain.specs.Sights.{Sight, left_by, server_parked, server_with, shut_with}
 use Rattle.px_chain.specs.Stages.{At, Parked, Sent, Stage, all_sent, busy, coming_down, connection, given_body, given_head, going_up, idle, next, over, request_body, response_body, response_head, side_of, side_parked, upgraded}
 use Rattle.px_event.specs.Sides.{piece_of}
-use Rattle.px_exchange.specs.Flows.{with_body}
-use Rattle.px_exchange.specs.Replies.{taken_at_request_body, taken_at_request_head}
 use Rattle.px_exchange.specs.Texts.{interim_commands}
 use Rattle.px_exchange.specs.Endings.{closed_message, ends_by_fault, ends_early, shut_server, without_response}
 use Rattle.px_event.specs.declared.command.Command.TheVariants as commands
-use Rattle.px_chain.specs.Coming.{Came, came_by, coming_by}
-use Rattle.px_cuts.proofs.ComingLaws.{text_stays}
-
--- the laws of the readers: what stands stays, whatever follows
-pub record ReadersStay : Type 0 where
-  pub request_head : RequestHeadStays
-  pub request : RequestStays
-  pub interim : InterimStay
-  pub final_head : FinalHeadStays
-  pub final : FinalStays
-
--- ---- an item with more behind it
-
-pub record Stays {H : Type 0} (item later : Item H) : Type 0 where
-  pub head : (head : H) → head_in item ≡ Some head → head_in later ≡ Some head
-  pub decided : is_decided item ≡ true → later ≡ item
-
-same_stays : {H : Type 0} (item : Item H) → Stays item item
-same_stays item = record { head = λ head is. is; decided = λ is. refl }
-
--- the same item, or one of the same head
-data SameHead {H : Type 0} (item later : Item H) : Type 0 where
-  same : later ≡ item → SameHead item later
-  heads : (head : H) → head_in item ≡ Some head → head_in later ≡ Some head → SameHead item later
-
-pub request_stays : ReadersStay → (bytes more : List ℕ) → Stays (request_item bytes) (request_item (bytes ++ more))
-request_stays readers bytes more = record {
-  head = λ head at. readers.request_head bytes more head at;
-  decided = λ at. readers.request bytes more at;
-}
-
-final_stays : ReadersStay → (asked_head : Bool) (bytes more : List ℕ) → Stays (answer_list asked_head false bytes).final (answer_list asked_head false (bytes ++ more)).final
-final_stays readers asked_head bytes more = record {
-  head = λ head at. readers.final_head asked_head false bytes more head at;
-  decided = λ at. readers.final asked_head false bytes more at;
-}
-
-interim_stays : ReadersStay → (asked_head : Bool) (bytes more : List ℕ) → is_begun (answer_list asked_head false bytes).final ≡ true →
-    (answer_list asked_head false (bytes ++ more)).interim ≡ (answer_list asked_head false bytes).interim
-interim_stays readers asked_head bytes more begun = (readers.interim asked_head false bytes more begun).0
-
-used_stays : ReadersStay → (asked_head : Bool) (bytes more : List ℕ) → is_begun (answer_list asked_head false bytes).final ≡ true →
-    (answer_list asked_head false (bytes ++ more)).used ≡ (answer_list asked_head false bytes).used
-used_stays readers asked_head bytes more begun = (readers.interim asked_head false bytes more begun).1
-
-none_is : {H : Type 0} {P : Type 0} (head : H) → None ≡ Some head → P
-none_is head is = absurd (let e : None ≡ Some head = is in cc)
-
-some_is : {H : Type 0} (h head : H) → Some h ≡ Some head → h ≡ head
-some_is h head is = cc
-
--- ---- heads
-
-module _ (terms : Terms) where
-  head_looked : (index : ℕ) (item : Item ReadRequest) (head : ReadRequest) (now : ℕ) (used : Used) (closed : Bool) → head_in item ≡ Some head →
-      look_head terms index item now used closed ≡ look_judged terms index head (judged terms.place head) now used closed
-  head_looked index missing head now used closed is = none_is head is
-  head_looked index (part h body) head now used closed is = ap (λ k. look_judged terms index k (judged terms.place k) now used closed) (some_is h head is)
-  head_looked index (complete h body trailers size) head now used closed is = ap (λ k. look_judged terms index k (judged terms.place k) now used closed) (some_is h head is)
-  head_looked index (bad_head fault) head now used closed is = none_is head is
-  head_looked index (bad_body fault h body) head now used closed is = ap (λ k. look_judged terms index k (judged terms.place k) now used closed) (some_is h head is)
-
-  look_head_same : (index : ℕ) (item later : Item ReadRequest) (now : ℕ) (used : Used) (closed : Bool) → SameHead item later →
-      look_head terms index later now used closed ≡ look_head terms index item now used closed
-  look_head_same index item later now used closed (same is) = ap (λ i. look_head terms index i now used closed) is
-  look_head_same index item later now used closed (heads head is at) = head_looked index later head now used closed at ∙ sym (head_looked index item head now used closed is)
-
-  head_led : (at : At) (item : Item ReadRequest) (head : ReadRequest) (seen : Sight) (answer : Timed Reply) → head_in item ≡ Some head →
-      turn_head terms at item seen answer ≡ turn_judged terms at head (judged terms.place head) seen answer
-  head_led at missing head seen answer is = none_is head is
-  head_led at (part h body) head seen answer is = ap (λ k. turn_judged terms at k (judged terms.place k) seen answer) (some_is h head is)
-  head_led at (complete h body trailers used) head seen answer is = ap (λ k. turn_judged terms at k (judged terms.place k) seen answer) (some_is h head is)
-  head_led at (bad_head fault) head seen answer is = none_is head is
-  head_led at (bad_body fault h body) head seen answer is = ap (λ k. turn_judged terms at k (judged terms.place k) seen answer) (some_is h head is)
-
-  head_turn_same : (at : At) (item later : Item ReadRequest) (seen : Sight) (answer : Timed Reply) → SameHead item later →
-      turn_head terms at later seen answer ≡ turn_head terms at item seen answer
-  head_turn_same at item later seen answer (same is) = ap (λ i. turn_head terms at i seen answer) is
-  head_turn_same at item later seen answer (heads head is there) = head_led at later head seen answer there ∙ sym (head_led at item head seen answer is)
-
-  -- where a head is found, it is found with more behind it
-  head_found : (index : ℕ) (item later : Item ReadRequest) (now : ℕ) (used : Used) (closed : Bool) → Stays item later → IsFound (look_head terms index item now used closed) → SameHead item later
-  head_found index missing later now used closed stays found = absurd found
-  head_found index (part head body) later now used closed stays found = heads head refl (stays.head head refl)
-  head_found index (complete head body trailers size) later now used closed stays found = same (stays.decided refl)
-  head_found index (bad_head fault) later now used closed stays found = same (stays.decided refl)
-  head_found index (bad_body fault head body) later now used closed stays found = same (stays.decided refl)
-
-answer_looked : (flow : Flow) (item : Item ReadResponse) (head : ReadResponse) (now : ℕ) (used : Used) (closed : Bool) → head_in item ≡ Some head →
-    look_answer flow item now used closed ≡ look_answer_head flow head now used closed
-answer_looked flow missing head now used closed is = none_is head is
-answer_looked flow (part h body) head now used closed is = ap (λ k. look_answer_head flow k now used closed) (some_is h head is)
-answer_looked flow (complete h body trailers size) head now used closed is = ap (λ k. look_answer_head flow k now used closed) (some_is h head is)
-answer_looked flow (bad_head fault) head now used closed is = none_is head is
-answer_looked flow (bad_body fault h body) head now used closed is = ap (λ k. look_answer_head flow k now used closed) (some_is h head is)
-
-look_answer_same : (flow : Flow) (item later : Item ReadResponse) (now : ℕ) (used : Used) (closed : Bool) → SameHead item later →
-    look_answer flow later now used closed ≡ look_answer flow item now used closed
-look_answer_same flow item later now used closed (same is) = ap (λ i. look_answer flow i now used closed) is
-look_answer_same flow item later now used closed (heads head is at) = answer_looked flow later head now used closed at ∙ sym (answer_looked flow item head now used closed is)
-
-answer_led : (terms : Terms) (at : At) (flow : Flow) (side : ℕ) (how : Sent) (item : Item ReadResponse) (head : ReadResponse) (seen : Sight) (answer : Timed Reply) → head_in item ≡ Some head →
-    turn_answer terms at flow side how item seen answer ≡ turn_answer_head terms at flow side how head seen answer
-answer_led terms at flow side how missing head seen answer is = none_is head is
-answer_led terms at flow side how (part h body) head seen answer is = ap (λ k. turn_answer_head terms at flow side how k seen answer) (some_is h head is)
-answer_led terms at flow side how (complete h body trailers size) head seen answer is = ap (λ k. turn_answer_head terms at flow side how k seen answer) (some_is h head is)
-answer_led terms at flow side how (bad_head fault) head seen answer is = none_is head is
-answer_led terms at flow side how (bad_body fault h body) head seen answer is = ap (λ k. turn_answer_head terms at flow side how k seen answer) (some_is h head is)
-
-answer_turn_same : (terms : Terms) (at : At) (flow : Flow) (side : ℕ) (how : Sent) (item later : Item ReadResponse) (seen : Sight) (answer : Timed Reply) → SameHead item later →
-    turn_answer terms at flow side how later seen answer ≡ turn_answer terms at flow side how item seen answer
-answer_turn_same terms at flow side how item later seen answer (same is) = ap (λ i. turn_answer terms at flow side how i seen answer) is
-answer_turn_same terms at flow side how item later seen answer (heads head is there) =
-    answer_led terms at flow side how later head seen answer there ∙ sym (answer_led terms at flow side how item head seen answer is)
-
-answer_found : (flow : Flow) (item later : Item ReadResponse) (now : ℕ) (used : Used) (closed : Bool) → Stays item later → IsFound (look_answer flow item now used closed) → SameHead item later
-answer_found flow missing later now used closed stays found = absurd found
-answer_found flow (part head body) later now used closed stays found = heads head refl (stays.head head refl)
-answer_found flow (complete head body trailers size) later now used closed stays found = same (stays.decided refl)
-answer_found flow (bad_head fault) later now used closed stays found = same (stays.decided refl)
-answer_found flow (bad_body fault head body) later now used closed stays found = same (stays.decided refl)
-
--- something of the final response has begun
-pub answer_begun : (flow : Flow) (item : Item ReadResponse) (now : ℕ) (used : Used) (closed : Bool) → IsFound (look_answer flow item now used closed) → is_begun item ≡ true
-answer_begun flow missing now used closed found = absurd found
-answer_begun flow (part head body) now used closed found = refl
-answer_begun flow (complete head body trailers size) now used closed found = refl
-answer_begun flow (bad_head fault) now used closed found = refl
-answer_begun flow (bad_body fault head body) now used closed found = refl
-
--- ---- bodies
-
-pub body_found : (flow : Flow) (item later : Item ReadRequest) (now : ℕ) (used : Used) (closed : Bool) → Stays item later → IsFound (look_body flow item now used closed) → later ≡ item
-body_found flow missing later now used closed stays found = absurd found
-body_found flow (part head body) later now used closed stays found = absurd found
-body_found flow (complete head body trailers size) later now used closed stays found = stays.decided refl
-body_found flow (bad_head fault) later now used closed stays found = absurd found
-body_found flow (bad_body fault head body) later now used closed stays found = stays.decided refl
-
-returned_found : (flow : Flow) (item later : Item ReadResponse) (now : ℕ) (used : Used) (closed : Bool) → Stays item later → IsFound (look_returned flow item now used closed) → later ≡ item
-returned_found flow missing later now used closed stays found = absurd found
-returned_found flow (part head body) later now used closed stays found = absurd found
-returned_found flow (complete head body trailers size) later now used closed stays found = stays.decided refl
-returned_found flow (bad_head fault) later now used closed stays found = absurd found
-returned_found flow (bad_body fault head body) later now used closed stays found = stays.decided refl
-
-returned_begun : (flow : Flow) (item : Item ReadResponse) (now : ℕ) (used : Used) (closed : Bool) → IsFound (look_returned flow item now used closed) → is_begun item ≡ true
-returned_begun flow missing now used closed found = absurd found
-returned_begun flow (part head body) now used closed found = absurd found
-returned_begun flow (complete head body trailers size) now used closed found = refl
-returned_begun flow (bad_head fault) now used closed found = absurd found
-returned_begun flow (bad_body fault head body) now used closed found = refl
-
--- of one that is streamed a fault alone is found
-pub coming_decided : (flow : Flow) (item : Item ReadResponse) (now : ℕ) (used : Used) (closed : Bool) → IsFound (look_coming flow item now used closed) → is_decided item ≡ true
-coming_decided flow missing now used closed found = absurd found
-coming_decided flow (part head body) now used closed found = absurd found
-coming_decided flow (complete head body trailers size) now used closed found = refl
-coming_decided flow (bad_head fault) now used closed found = refl
-coming_decided flow (bad_body fault head body) now used closed found = refl
-
-pub returned_decided : (flow : Flow) (item : Item ReadResponse) (now : ℕ) (used : Used) (closed : Bool) → IsFound (look_returned flow item now used closed) → is_decided item ≡ true
-returned_decided flow missing now used closed found = absurd found
-returned_decided flow (part head body) now used closed found = absurd found
-returned_decided flow (complete head body trailers size) now used closed found = refl
-returned_decided flow (bad_head fault) now used closed found = refl
-returned_decided flow (bad_body fault head body) now used closed found = refl
-
--- and one that came is whole
-pub came_decided : (given : Option Response) (item : Item ReadResponse) (came : Came) → came_by given item ≡ Some came → is_decided item ≡ true
-came_decided None item came is = none_is came is
-came_decided (Some response) missing came is = none_is came is
-came_decided (Some response) (part head body) came is = none_is came is
-came_decided (Some response) (complete head body trailers size) came is = refl
-came_decided (Some response) (bad_head fault) came is = none_is came is
-came_decided (Some response) (bad_body fault head body) came is = none_is came is
-
--- ---- a place where something is found, and one that heard a piece more
-
-pub or_found : (leaves : List Command) (l : Look Command) → IsFound (or_leaves false leaves l) → IsFound l
-or_found leaves NotYet found = absurd found
-or_found leaves (Asks ask) found = tt
-or_found leaves (Ends owed) found = tt
-
--- the body of a response is whole or refused where something is found of it
-pub returned_ended : (flow : Flow) (item : Item ReadResponse) (now : ℕ) (used : Used) (closed : Bool) → IsFound (look_returned flow item now used closed) → has_ended item ≡ true
-returned_ended flow missing now used closed found = absurd found
-returned_ended flow (part head body) now used closed found = absurd found
-returned_ended flow (complete head body trailers size) now used closed found = refl
-returned_ended flow (bad_head fault) now used closed found = absurd found
-returned_ended flow (bad_body fault head body) now used closed found = refl
-
-pub coming_ended : (flow : Flow) (item : Item ReadResponse) (now : ℕ) (used : Used) (closed : Bool) → IsFound (look_coming flow item now used closed) → has_ended item ≡ true
-coming_ended flow missing now used closed found = absurd found
-coming_ended flow (part head body) now used closed found = absurd found
-coming_ended flow (complete head body trailers size) now used closed found = refl
-coming_ended flow (bad_head fault) now used closed found = absurd found
-coming_ended flow (bad_body fault head body) now used closed found = refl
-
--- and one that is streamed ends so
-pub coming_ends : (flow : Flow) (item : Item ReadResponse) (now : ℕ) (used : Used) (closed : Bool) (given : Option Response) → IsFound (look_coming flow item now used closed) → ends_here given item ≡ true
-coming_ends flow missing now used closed given found = absurd found
-coming_ends flow (part head body) now used closed given found = absurd found
-coming_ends flow (complete head body trailers size) now used closed given found = absurd found
-coming_ends flow (bad_head fault) now used closed given found = absurd found
-coming_ends flow (bad_body fault head body) now used closed None found = refl
-coming_ends flow (bad_body fault head body) now used closed (Some response) found = refl
+use Rattle.px_chain.specs.Coming.{coming_by}
+use Rattle.px_cuts.proofs.ComingLaws.{decided_begun, text_stays}
+use Rattle.px_cuts.proofs.ItemLaws.{ReadersStay, answer_begun, answer_found, answer_reads, answer_turn_same, body_found, body_reads, coming_decided, coming_ends, final_stays, head_found, head_reads, head_turn_same, interim_stays, look_answer_same, look_head_same, or_found, request_stays, returned_begun, returned_decided, returned_ended, returned_found, returned_reads, used_stays}
 
 -- all that is found is found with this event too
 pub record FindsAlike (terms : Terms) (stage : Stage) (v w : Sight) : Type 0 where
@@ -263,104 +50,21 @@ pub record FindsAlike (terms : Terms) (stage : Stage) (v w : Sight) : Type 0 whe
   pub behind : behind stage w ≡ behind stage v
   pub turn : (answer : Timed Reply) → turn terms stage w answer ≡ turn terms stage v answer
 
--- ---- a turn reads no bytes of its sight but those of the item
-
--- nor does it of the parked side: it has the number of its server, and whether that closed
-module _ (client client' : List ℕ) (closed : Bool) (server server' : List ℕ) (shut shut' : Bool) (told now : ℕ) (at : At) where
-  abbrev one : Sight
-  one = make client closed server shut told now
-
-  abbrev other : Sight
-  other = make client' closed server' shut' told now
-
-  module _ (parked : server_parked at.parked one ≡ server_parked at.parked other) where
-    head_taken_reads : (flow : Flow) (expected : Bool) (most : Option ℕ) (taken : Taken Request) (moment : ℕ) →
-        turn_taken_head at flow expected most taken moment one ≡ turn_taken_head at flow expected most taken moment other
-    head_taken_reads flow expected most (GoesOn request) moment = refl
-    head_taken_reads flow expected most (Responds response) moment = refl
-    head_taken_reads flow expected most Kills moment = ap (λ u. killed flow moment u closed) parked
-
-    module _ (answer : Timed Reply) where
-      judged_reads : (terms : Terms) (head : ReadRequest) (j : Judged) → turn_judged terms at head j one answer ≡ turn_judged terms at head j other answer
-      judged_reads terms head (Refused fault) = refl
-      judged_reads terms head (Connects address) = refl
-      judged_reads terms head (Accepted request) =
-          head_taken_reads (flow_of terms at.flow request now) (expects head) (allowed_up_by terms.streams answer.value) (taken_at_request_head request answer.value) answer.moment
-
-      head_reads : (terms : Terms) (item : Item ReadRequest) → turn_head terms at item one answer ≡ turn_head terms at item other answer
-      head_reads terms missing = refl
-      head_reads terms (part head body) = judged_reads terms head (judged terms.place head)
-      head_reads terms (complete head body trailers used) = judged_reads terms head (judged terms.place head)
-      head_reads terms (bad_head fault) = refl
-      head_reads terms (bad_body fault head body) = judged_reads terms head (judged terms.place head)
-
-    body_taken_reads : (to : Place) (flow : Flow) (taken : Taken Request) (moment : ℕ) →
-        turn_taken_body to at flow taken moment one ≡ turn_taken_body to at flow taken moment other
-    body_taken_reads to flow (GoesOn request) moment = refl
-    body_taken_reads to flow (Responds response) moment = refl
-    body_taken_reads to flow Kills moment = ap (λ u. killed flow moment u closed) parked
-
-    body_reads : (answer : Timed Reply) (to : Place) (flow : Flow) (item : Item ReadRequest) → turn_body to at flow item one answer ≡ turn_body to at flow item other answer
-    body_reads answer to flow missing = refl
-    body_reads answer to flow (part head body) = refl
-    body_reads answer to flow (complete head body trailers used) =
-        let whole : Flow = with_body flow body.content trailers now in
-        body_taken_reads to whole (taken_at_request_body whole.request answer.value) answer.moment
-    body_reads answer to flow (bad_head fault) = refl
-    body_reads answer to flow (bad_body fault head body) = refl
-
-module _ (client client' : List ℕ) (closed : Bool) (server server' : List ℕ) (shut : Bool) (told now : ℕ) (answer : Timed Reply) (at : At) (flow : Flow) (side : ℕ) (how : Sent) where
-  abbrev longer : Sight
-  longer = make client closed server shut told now
-
-  abbrev before : Sight
-  before = make client' closed server' shut told now
-
-  answer_reads : (terms : Terms) (item : Item ReadResponse) → turn_answer terms at flow side how item longer answer ≡ turn_answer terms at flow side how item before answer
-  answer_reads terms missing = refl
-  answer_reads terms (part head body) = refl
-  answer_reads terms (complete head body trailers size) = refl
-  answer_reads terms (bad_head fault) = refl
-  answer_reads terms (bad_body fault head body) = refl
-
-  returned_reads : (item : Item ReadResponse) → turn_returned at flow side how item longer answer ≡ turn_returned at flow side how item before answer
-  returned_reads missing = refl
-  returned_reads (part head body) = refl
-  returned_reads (complete head body trailers size) = refl
-  returned_reads (bad_head fault) = refl
-  returned_reads (bad_body fault head body) = refl
-
--- ---- what is left, with more behind it
-
-pub left_more : {H : Type 0} (item : Item H) (bytes more : List ℕ) →
-    ((head : H) (body : Body) (trailers : List (List ℕ × List ℕ)) (size : ℕ) → item ≡ complete head body trailers size → size ≤ length bytes) →
-    left_by item (bytes ++ more) ≡ left_by item bytes ++ more
-left_more missing bytes more fits = refl
-left_more (part head body) bytes more fits = refl
-left_more (complete head body trailers size) bytes more fits = drop-append-le size bytes more (fits head body trailers size refl)
-left_more (bad_head fault) bytes more fits = refl
-left_more (bad_body fault head body) bytes more fits = refl
-
 -- ---- a piece more
 
 pub still_open : (shut : Bool) → (shut || false) ≡ shut
 still_open true = refl
 still_open false = refl
 
--- what is heard of a server with more, behind its close nothing
-abbrev pub later_server : Bool → List ℕ → List ℕ → List ℕ
-later_server true server more = server
-later_server false server more = server ++ more
-
 module _ (terms : Terms) (readers : ReadersStay) (side : Side) (bytes : List ℕ) where
   abbrev piece : Event
   piece = events.Piece side bytes
 
   -- a piece closes no parked side
-  parked_by : (parked : Option Parked) (client client' : List ℕ) (server server' : List ℕ) (shut : Bool) (told now : ℕ) →
-      server_parked parked (make client false server (shut_with (side_parked parked) shut piece) told now) ≡ server_parked parked (make client' false server' shut told now)
-  parked_by None client client' server server' shut told now = refl
-  parked_by (Some parked) client client' server server' shut told now = ap (λ b. ByServer parked.server b) (still_open shut)
+  parked_by : (parked : Option Parked) (client client' : List ℕ) (server server' : List ℕ) (shut shut' : Bool) (told now : ℕ) → shut' ≡ shut →
+      server_parked parked (make client false server shut' told now) ≡ server_parked parked (make client' false server' shut told now)
+  parked_by None client client' server server' shut shut' told now closes = refl
+  parked_by (Some parked) client client' server server' shut shut' told now closes = ap (λ b. ByServer parked.server b) closes
 
   module _ (client server : List ℕ) (shut : Bool) (told now : ℕ) where
     abbrev shorter : Sight
@@ -370,43 +74,102 @@ module _ (terms : Terms) (readers : ReadersStay) (side : Side) (bytes : List ℕ
     abbrev with_piece : At → Sight
     with_piece at = hears (side_parked at.parked) shorter piece
 
-    parked_heard : (at : At) → server_parked at.parked (with_piece at) ≡ server_parked at.parked shorter
-    parked_heard at = parked_by at.parked (client ++ piece_of Client piece) client (server_with (side_parked at.parked) shut server piece) server shut told now
+    module _ (at : At) (aside : Aside side bytes at.parked server shut) where
+      abbrev client_more : List ℕ
+      client_more = client ++ piece_of Client piece
 
-    idle_finds : (at : At) → IsFound (look terms (idle at) shorter) → FindsAlike terms (idle at) shorter (with_piece at)
-    idle_finds at found =
-        let longer = client ++ piece_of Client piece in
-        let item = request_item client in
-        let later = request_item longer in
-        let used : Used = server_parked at.parked shorter in
-        let stays = request_stays readers client (piece_of Client piece) in
-        let heads = head_found terms at.flow item later now used false stays (or_found (shut_server used) (look_head terms at.flow item now used false) found) in
-        record {
-          look = ap (λ u. or_leaves false (shut_server u) (look_head terms at.flow later now u false)) (parked_heard at)
-              ∙ ap (λ l. or_leaves false (shut_server used) l) (look_head_same terms at.flow item later now used false heads);
-          so_far = refl;
-          behind = refl;
-          turn = λ answer. head_turn_same terms at item later (with_piece at) answer heads
-              ∙ head_reads longer client false (server_with (side_parked at.parked) shut server piece) server (shut_with (side_parked at.parked) shut piece) shut told now at (parked_heard at) answer terms item;
-        }
+      abbrev heard_of : List ℕ
+      heard_of = server_with (side_parked at.parked) shut server piece
 
-    request_finds : (at : At) (flow : Flow) (given : Option Response) (most : Option ℕ) → IsFound (look terms (busy at flow (request_body given most)) shorter) →
-        FindsAlike terms (busy at flow (request_body given most)) shorter (with_piece at)
-    request_finds at flow given most found =
-        let longer = client ++ piece_of Client piece in
-        let item = request_item client in
-        let later = request_item longer in
-        let used : Used = server_parked at.parked shorter in
-        let stays = request_stays readers client (piece_of Client piece) in
-        let whole = body_found flow item later now used false stays (or_found (ends_early flow closed_message now used true) (look_body flow item now used false) found) in
-        record {
-          look = ap (λ u. or_leaves false (ends_early flow closed_message now u true) (look_body flow later now u false)) (parked_heard at)
-              ∙ ap (λ i. or_leaves false (ends_early flow closed_message now used true) (look_body flow i now used false)) whole;
-          so_far = refl;
-          behind = refl;
-          turn = λ answer. ap (λ i. turn_body terms.place at flow i (with_piece at) answer) whole
-              ∙ body_reads longer client false (server_with (side_parked at.parked) shut server piece) server (shut_with (side_parked at.parked) shut piece) shut told now at (parked_heard at) answer terms.place flow item;
-        }
+      abbrev its_shut : Bool
+      its_shut = shut_with (side_parked at.parked) shut piece
+
+      rests : RestSame side bytes at.parked server shut
+      rests = rest_same side bytes at.parked server shut aside
+
+      -- the place without a spoilt side
+      abbrev there : At
+      there = unspoilt_at at shorter
+
+      same_there : unspoilt_at at (with_piece at) ≡ there
+      same_there = ap (λ silent. record at { parked = unspoilt_by silent at.parked }) rests.silent
+
+      parked_heard : server_parked there.parked (with_piece at) ≡ server_parked there.parked shorter
+      parked_heard = parked_by there.parked client_more client heard_of server shut its_shut told now (shut_piece side bytes (side_parked at.parked) shut)
+
+      stray_heard : shut_stray at.parked (with_piece at) ++ [] ≡ shut_stray at.parked shorter ++ []
+      stray_heard = ap (λ l. l ++ []) (rests.stray client_more client told now)
+
+      idle_finds : IsFound (look terms (idle at) shorter) → FindsAlike terms (idle at) shorter (with_piece at)
+      idle_finds found =
+          let item = request_item client in
+          let later = request_item client_more in
+          let used : Used = server_parked there.parked shorter in
+          let stays = request_stays readers client (piece_of Client piece) in
+          let heads = head_found terms at.flow item later now used false stays (or_found (shut_server used) (look_head terms at.flow item now used false) found) in
+          record {
+            look = ap (λ (a : At). or_leaves false (shut_server (server_parked a.parked (with_piece at))) (look_head terms at.flow later now (server_parked a.parked (with_piece at)) false)) same_there
+                ∙ (ap (λ u. or_leaves false (shut_server u) (look_head terms at.flow later now u false)) parked_heard
+                ∙ ap (λ l. or_leaves false (shut_server used) l) (look_head_same terms at.flow item later now used false heads));
+            so_far = stray_heard;
+            behind = refl;
+            turn = λ answer. ap (λ a. turn_head terms a later (with_piece at) answer) same_there
+                ∙ (head_turn_same terms there item later (with_piece at) answer heads
+                ∙ head_reads client_more client false heard_of server its_shut shut told now there parked_heard answer terms item);
+          }
+
+      request_finds : (flow : Flow) (given : Option Response) (most : Option ℕ) → IsFound (look terms (busy at flow (request_body given most)) shorter) →
+          FindsAlike terms (busy at flow (request_body given most)) shorter (with_piece at)
+      request_finds flow given most found =
+          let item = request_item client in
+          let later = request_item client_more in
+          let used : Used = server_parked there.parked shorter in
+          let stays = request_stays readers client (piece_of Client piece) in
+          let whole = body_found flow item later now used false stays (or_found (ends_early flow closed_message now used true) (look_body flow item now used false) found) in
+          record {
+            look = ap (λ (a : At). or_leaves false (ends_early flow closed_message now (server_parked a.parked (with_piece at)) true) (look_body flow later now (server_parked a.parked (with_piece at)) false)) same_there
+                ∙ (ap (λ u. or_leaves false (ends_early flow closed_message now u true) (look_body flow later now u false)) parked_heard
+                ∙ ap (λ i. or_leaves false (ends_early flow closed_message now used true) (look_body flow i now used false)) whole);
+            so_far = stray_heard;
+            behind = refl;
+            turn = λ answer. ap (λ a. turn_body terms.place a flow later (with_piece at) answer) same_there
+                ∙ (ap (λ i. turn_body terms.place there flow i (with_piece at) answer) whole
+                ∙ body_reads client_more client false heard_of server its_shut shut told now there parked_heard answer terms.place flow item);
+          }
+
+      dial_finds : (flow : Flow) (how : Sent) → FindsAlike terms (busy at flow (connection how)) shorter (with_piece at)
+      dial_finds flow how = record {
+        look = refl;
+        so_far = stray_heard;
+        behind = ap (λ (a : At). shut_server (server_parked a.parked (with_piece at))) same_there ∙ ap (λ u. shut_server u) parked_heard;
+        turn = λ answer. ap (λ a. turn_dial terms.place a flow how answer false) same_there;
+      }
+
+      given_finds : (flow : Flow) → FindsAlike terms (busy at flow given_head) shorter (with_piece at)
+      given_finds flow = record {
+        look = refl;
+        so_far = stray_heard;
+        behind = refl;
+        turn = λ answer. ap (λ (a : At). turn_given_head a (given_at flow now) answer (server_parked a.parked (with_piece at)) false) same_there
+            ∙ ap (λ u. turn_given_head there (given_at flow now) answer u false) parked_heard;
+      }
+
+      whole_finds : (flow : Flow) → FindsAlike terms (busy at flow given_body) shorter (with_piece at)
+      whole_finds flow = record {
+        look = refl;
+        so_far = stray_heard;
+        behind = refl;
+        turn = λ answer. ap (λ (a : At). turn_whole_answer a flow answer (server_parked a.parked (with_piece at)) false) same_there
+            ∙ ap (λ u. turn_whole_answer there flow answer u false) parked_heard;
+      }
+
+      next_finds : FindsAlike terms (next at) shorter (with_piece at)
+      next_finds = record {
+        look = refl;
+        so_far = stray_heard;
+        behind = refl;
+        turn = λ answer. ap (λ a. (let t : Turn Stage Command = record { owed = []; stage = next a } in t)) same_there;
+      }
 
   -- ---- a flow that stands at its server's side
 
@@ -436,37 +199,74 @@ module _ (terms : Terms) (readers : ReadersStay) (side : Side) (bytes : List ℕ
     none_more : more ≡ [] → server ++ more ≡ server
     none_more none = ap (λ l. server ++ l) none ∙ append-nil server
 
+    -- where something of a response has begun its side is not silent, with more neither
+    begun_silent : (shut : Bool) → is_begun (answers_by shut).final ≡ true → is_silent (later_server shut server more) shut ≡ is_silent server shut
+    begun_silent true begun = refl
+    begun_silent false begun = begun_more server begun
+      where
+        begun_more : (l : List ℕ) → is_begun (answer_list asked_head false l).final ≡ true → is_silent (l ++ more) false ≡ is_silent l false
+        begun_more [] begun = absurd (not_both (is_begun (answer_list asked_head false []).final) refl begun)
+        begun_more (byte ∷ l) begun = refl
+
+    quiet_silent : (shut : Bool) → more ≡ [] → is_silent (later_server shut server more) shut ≡ is_silent server shut
+    quiet_silent true none = refl
+    quiet_silent false none = ap (λ l. is_silent l false) (none_more none)
+
+    -- so it is without a spoilt side in both
+    same_place : (shut : Bool) → is_silent (later_server shut server more) shut ≡ is_silent server shut → unspoilt_at at (behind_it shut) ≡ unspoilt_at at (before_it shut)
+    same_place shut silent = ap (λ b. record at { parked = unspoilt_by b at.parked }) silent
+
     -- what is told of its response is the same
     record AnswerSame (shut : Bool) : Type 0 where
       look : look_answer flow (later_by shut).final now (ByServer own shut) false ≡ look_answer flow (answers_by shut).final now (ByServer own shut) false
       interim : interim_commands flow.request (later_by shut).interim ≡ interim_commands flow.request (answers_by shut).interim
-      turn : (how : Sent) (answer : Timed Reply) →
-          turn_answer terms at flow own how (later_by shut).final (behind_it shut) answer ≡ turn_answer terms at flow own how (answers_by shut).final (before_it shut) answer
+      turn : (there : At) (how : Sent) (answer : Timed Reply) →
+          turn_answer terms there flow own how (later_by shut).final (behind_it shut) answer ≡ turn_answer terms there flow own how (answers_by shut).final (before_it shut) answer
+      silent : is_silent (later_server shut server more) shut ≡ is_silent server shut
 
     answers_found : (shut : Bool) → IsFound (look_answer flow (answers_by shut).final now (ByServer own shut) false) → AnswerSame shut
-    answers_found true found = record { look = refl; interim = refl; turn = λ how answer. answer_reads longer_client client false server server true told now answer at flow own how terms (answers_by true).final }
+    answers_found true found = record {
+      look = refl;
+      interim = refl;
+      turn = λ there how answer. answer_reads longer_client client false server server true told now answer there flow own how terms (answers_by true).final;
+      silent = refl;
+    }
     answers_found false found =
         let item = (answers_by false).final in
         let later = (later_by false).final in
         let used : Used = ByServer own false in
         let heads = answer_found flow item later now used false (final_stays readers asked_head server more) found in
+        let begun = answer_begun flow item now used false found in
         record {
           look = look_answer_same flow item later now used false heads;
-          interim = ap (λ l. interim_commands flow.request l) (interim_stays readers asked_head server more (answer_begun flow item now used false found));
-          turn = λ how answer. answer_turn_same terms at flow own how item later (behind_it false) answer heads
-              ∙ answer_reads longer_client client false (server ++ more) server false told now answer at flow own how terms item;
+          interim = ap (λ l. interim_commands flow.request l) (interim_stays readers asked_head server more begun);
+          turn = λ there how answer. answer_turn_same terms there flow own how item later (behind_it false) answer heads
+              ∙ answer_reads longer_client client false (server ++ more) server false told now answer there flow own how terms item;
+          silent = begun_silent false begun;
         }
 
     answers_quiet : (shut : Bool) → more ≡ [] → AnswerSame shut
-    answers_quiet true none = record { look = refl; interim = refl; turn = λ how answer. answer_reads longer_client client false server server true told now answer at flow own how terms (answers_by true).final }
+    answers_quiet true none = record {
+      look = refl;
+      interim = refl;
+      turn = λ there how answer. answer_reads longer_client client false server server true told now answer there flow own how terms (answers_by true).final;
+      silent = refl;
+    }
     answers_quiet false none =
         let same = none_more none in
         record {
           look = ap (λ l. look_answer flow (answer_list asked_head false l).final now (ByServer own false) false) same;
           interim = ap (λ l. interim_commands flow.request (answer_list asked_head false l).interim) same;
-          turn = λ how answer. ap (λ l. turn_answer terms at flow own how (answer_list asked_head false l).final (make longer_client false l false told now) answer) same
-              ∙ answer_reads longer_client client false server server false told now answer at flow own how terms (answers_by false).final;
+          turn = λ there how answer. ap (λ l. turn_answer terms there flow own how (answer_list asked_head false l).final (make longer_client false l false told now) answer) same
+              ∙ answer_reads longer_client client false server server false told now answer there flow own how terms (answers_by false).final;
+          silent = quiet_silent false none;
         }
+
+    -- at the place without a spoilt side
+    answer_turns : (shut : Bool) → AnswerSame shut → (how : Sent) (answer : Timed Reply) →
+        turn terms (busy at flow (response_head own how)) (behind_it shut) answer ≡ turn terms (busy at flow (response_head own how)) (before_it shut) answer
+    answer_turns shut alike how answer =
+        ap (λ a. turn_answer terms a flow own how (later_by shut).final (behind_it shut) answer) (same_place shut alike.silent) ∙ alike.turn (unspoilt_at at (before_it shut)) how answer
 
     answers_up : (bad : Bool) (shut : Bool) (answered : Bool) (ends : Fault → List Command) → is_bad (request_item client) ≡ bad → IsBeside side own (request_item client) answered →
         IsFound (bad_or (request_item client) ends (look_answer flow (answers_by shut).final now (ByServer own shut) false)) → AnswerSame shut
@@ -484,7 +284,7 @@ module _ (terms : Terms) (readers : ReadersStay) (side : Side) (bytes : List ℕ
     head_finds all_sent shut beside found =
         let leaving = ends_early flow closed_message now (ByServer own shut) true in
         let same = answers_found shut (or_found leaving (look_answer flow (answers_by shut).final now (ByServer own shut) false) found) in
-        record { look = ap (λ l. or_leaves false leaving l) same.look; so_far = same.interim; behind = refl; turn = λ answer. same.turn all_sent answer }
+        record { look = ap (λ l. or_leaves false leaving l) same.look; so_far = same.interim; behind = refl; turn = λ answer. answer_turns shut same all_sent answer }
     head_finds going_up shut beside found =
         let leaving = ends_early flow closed_message now (ByServer own shut) true in
         let item = request_item client in
@@ -500,58 +300,68 @@ module _ (terms : Terms) (readers : ReadersStay) (side : Side) (bytes : List ℕ
           so_far = ap (λ text. commands.Send (Server own) (left_of told text) ∷ interim_commands flow.request (later_by shut).interim) told_same.text
               ∙ ap (λ l. commands.Send (Server own) (sent_text client) ∷ l) same.interim;
           behind = refl;
-          turn = λ answer. same.turn going_up answer;
+          turn = λ answer. answer_turns shut same going_up answer;
         }
+
+    -- the final response is the same, and the side as silent
+    record FinalSame (shut : Bool) : Type 0 where
+      final : (later_by shut).final ≡ (answers_by shut).final
+      silent : is_silent (later_server shut server more) shut ≡ is_silent server shut
 
     record ReturnedSame (shut : Bool) : Type 0 where
       look : look_returned flow (later_by shut).final now (ByServer own shut) false ≡ look_returned flow (answers_by shut).final now (ByServer own shut) false
-      turn : (how : Sent) (answer : Timed Reply) →
-          turn_returned at flow own how (later_by shut).final (behind_it shut) answer ≡ turn_returned at flow own how (answers_by shut).final (before_it shut) answer
+      turn : (how : Sent) (most : Option ℕ) (answer : Timed Reply) →
+          turn terms (busy at flow (response_body own how most)) (behind_it shut) answer ≡ turn terms (busy at flow (response_body own how most)) (before_it shut) answer
 
-    returned_same : (shut : Bool) → (later_by shut).final ≡ (answers_by shut).final → ReturnedSame shut
-    returned_same shut whole = record {
-      look = ap (λ i. look_returned flow i now (ByServer own shut) false) whole;
-      turn = λ how answer. ap (λ i. turn_returned at flow own how i (behind_it shut) answer) whole
-          ∙ returned_reads longer_client client false (later_server shut server more) server shut told now answer at flow own how (answers_by shut).final;
-    }
+    returned_same : (shut : Bool) → OwnAside side bytes flow.request own server shut → FinalSame shut → ReturnedSame shut
+    returned_same shut aside stays =
+        let there : At = unspoilt_at at (before_it shut) in
+        record {
+          look = ap (λ i. look_returned flow i now (ByServer own shut) false) stays.final;
+          turn = λ how most answer. ap (λ i. turn_returned terms.place (unspoilt_at at (behind_it shut)) flow own how i (behind_it shut) answer) stays.final
+              ∙ (ap (λ a. turn_returned terms.place a flow own how (answers_by shut).final (behind_it shut) answer) (same_place shut stays.silent)
+              ∙ returned_reads longer_client client false (later_server shut server more) server shut told now answer there flow own how terms.place (answers_by shut).final
+              (keeps_same flow.request side bytes own shut server aside));
+        }
 
     -- its final response stays, where that is whole or refused, and where nothing more is heard
-    final_by : (shut : Bool) → is_decided (answers_by shut).final ≡ true → (later_by shut).final ≡ (answers_by shut).final
-    final_by true decided = refl
-    final_by false decided = (final_stays readers asked_head server more).decided decided
+    final_by : (shut : Bool) → is_decided (answers_by shut).final ≡ true → FinalSame shut
+    final_by true decided = record { final = refl; silent = refl }
+    final_by false decided =
+        record { final = (final_stays readers asked_head server more).decided decided; silent = begun_silent false (decided_begun (answers_by false).final decided) }
 
-    final_quiet : (shut : Bool) → more ≡ [] → (later_by shut).final ≡ (answers_by shut).final
-    final_quiet true none = refl
-    final_quiet false none = ap (λ l. (answer_list asked_head false l).final) (none_more none)
+    final_quiet : (shut : Bool) → more ≡ [] → FinalSame shut
+    final_quiet true none = record { final = refl; silent = refl }
+    final_quiet false none = record { final = ap (λ l. (answer_list asked_head false l).final) (none_more none); silent = quiet_silent false none }
 
-    pub final_up : (shut : Bool) (answered : Bool) → (answered ≡ true → has_ended (answers_by shut).final ≡ true) → IsBeside side own (request_item client) answered →
-        FoundUp answered (request_item client) → (later_by shut).final ≡ (answers_by shut).final
+    final_up : (shut : Bool) (answered : Bool) → (answered ≡ true → has_ended (answers_by shut).final ≡ true) → IsBeside side own (request_item client) answered →
+        FoundUp answered (request_item client) → FinalSame shut
     final_up shut answered ends beside (is_answered holds) = final_by shut (ended_decided (answers_by shut).final (ends holds))
     final_up shut answered ends beside (is_refused bad) = final_quiet shut (waits_more side bytes own (request_item client) answered beside bad)
 
-    body_finds : (how : Sent) (most : Option ℕ) (shut : Bool) → WaitsBeside side (busy at flow (response_body own how most)) (before_it shut) →
+    body_finds : (how : Sent) (most : Option ℕ) (shut : Bool) → OwnAside side bytes flow.request own server shut → WaitsBeside side (busy at flow (response_body own how most)) (before_it shut) →
         IsFound (look terms (busy at flow (response_body own how most)) (before_it shut)) → FindsAlike terms (busy at flow (response_body own how most)) (before_it shut) (behind_it shut)
-    body_finds all_sent most shut beside found =
+    body_finds all_sent most shut aside beside found =
         let leaving = ends_early (without_response flow) closed_message now (ByServer own shut) true in
         let item = (answers_by shut).final in
         let there = or_found leaving (look_returned flow item now (ByServer own shut) false) found in
-        let same = returned_same shut (final_by shut (returned_decided flow item now (ByServer own shut) false there)) in
-        record { look = ap (λ l. or_leaves false leaving l) same.look; so_far = refl; behind = refl; turn = λ answer. same.turn all_sent answer }
-    body_finds going_up most shut beside found =
+        let same = returned_same shut aside (final_by shut (returned_decided flow item now (ByServer own shut) false there)) in
+        record { look = ap (λ l. or_leaves false leaving l) same.look; so_far = refl; behind = refl; turn = λ answer. same.turn all_sent most answer }
+    body_finds going_up most shut aside beside found =
         let leaving = ends_early (without_response flow) closed_message now (ByServer own shut) true in
         let item = request_item client in
         let inner = look_returned flow (answers_by shut).final now (ByServer own shut) false in
         let answered : Bool = has_ended (answers_by shut).final in
         let up = found_up item (up_ends shut) inner answered (λ is. returned_ended flow (answers_by shut).final now (ByServer own shut) false is)
         (or_found leaving (bad_or item (up_ends shut) inner) found) in
-        let same = returned_same shut (final_up shut answered (λ is. is) beside up) in
+        let same = returned_same shut aside (final_up shut answered (λ is. is) beside up) in
         let told_same = waits_request terms.place flow side bytes client own answered beside up in
         record {
           look = ap (λ i. or_leaves false leaving (bad_or i (up_ends shut) (look_returned flow (later_by shut).final now (ByServer own shut) false))) told_same.item
               ∙ ap (λ l. or_leaves false leaving (bad_or item (up_ends shut) l)) same.look;
           so_far = ap (λ text. (let one : List Command = commands.Send (Server own) (left_of told text) ∷ [] in one)) told_same.text;
           behind = refl;
-          turn = λ answer. same.turn going_up answer;
+          turn = λ answer. same.turn going_up most answer;
         }
 
     -- ---- one that comes down
@@ -583,7 +393,7 @@ module _ (terms : Terms) (readers : ReadersStay) (side : Side) (bytes : List ℕ
         let item = (answers_by shut).final in
         let decided = coming_decided flow item now (ByServer own shut) false (or_found leaving (look_coming flow item now (ByServer own shut) false) found) in
         record {
-          look = ap (λ i. or_leaves false leaving (look_coming flow i now (ByServer own shut) false)) (final_by shut decided);
+          look = ap (λ i. or_leaves false leaving (look_coming flow i now (ByServer own shut) false)) (final_by shut decided).final;
           so_far = ap (λ text. (let one : List Command = commands.Send Client text ∷ [] in one)) (text_decided shut decided);
           behind = refl;
           turn = λ answer. refl;
@@ -599,51 +409,47 @@ module _ (terms : Terms) (readers : ReadersStay) (side : Side) (bytes : List ℕ
         let told_same = waits_request terms.place flow side bytes client own answered beside up in
         record {
           look = ap (λ i. or_leaves false leaving (bad_or i (early_ends shut) (look_coming flow (later_by shut).final now (ByServer own shut) false))) told_same.item
-              ∙ ap (λ i. or_leaves false leaving (bad_or item (early_ends shut) (look_coming flow i now (ByServer own shut) false))) (final_up shut answered ends beside up);
+              ∙ ap (λ i. or_leaves false leaving (bad_or item (early_ends shut) (look_coming flow i now (ByServer own shut) false))) (final_up shut answered ends beside up).final;
           so_far = ap (λ text. (let both : List Command = commands.Send (Server own) (left_of told text) ∷ commands.Send Client (text_by shut (later_server shut server more)) ∷ [] in both)) told_same.text
               ∙ ap (λ text. (let both : List Command = commands.Send (Server own) (sent_text client) ∷ commands.Send Client text ∷ [] in both)) (text_up shut answered ends beside up);
           behind = refl;
           turn = λ answer. refl;
         }
 
-  finds_by : (stage : Stage) (client server : List ℕ) (shut : Bool) (told now : ℕ) → WaitsBeside side stage (make client false server shut told now) → IsFound (look terms stage (make client false server shut told now)) →
+  finds_by : (stage : Stage) (client server : List ℕ) (shut : Bool) (told now : ℕ) → MayBeFollowed side stage (make client false server shut told now) →
+      WaitsBeside side stage (make client false server shut told now) → IsFound (look terms stage (make client false server shut told now)) →
       FindsAlike terms stage (make client false server shut told now) (hears (side_of stage) (make client false server shut told now) piece)
-  finds_by (idle at) client server shut told now beside found = idle_finds client server shut told now at found
-  finds_by (busy at flow (request_body given most)) client server shut told now beside found = request_finds client server shut told now at flow given most found
-  finds_by (busy at flow (connection how)) client server shut told now beside found = record {
-    look = refl;
-    so_far = refl;
-    behind = ap (λ u. shut_server u) (parked_heard client server shut told now at);
-    turn = λ answer. refl;
-  }
-  finds_by (busy at flow (response_head own how)) client server true told now beside found = head_finds at flow own client server told now how true beside found
-  finds_by (busy at flow (response_head own how)) client server false told now beside found = head_finds at flow own client server told now how false beside found
-  finds_by (busy at flow (response_body own how most)) client server true told now beside found = body_finds at flow own client server told now how most true beside found
-  finds_by (busy at flow (response_body own how most)) client server false told now beside found = body_finds at flow own client server told now how most false beside found
-  finds_by (busy at flow (coming_down own how)) client server true told now beside found = coming_finds at flow own client server told now how true beside found
-  finds_by (busy at flow (coming_down own how)) client server false told now beside found = coming_finds at flow own client server told now how false beside found
-  finds_by (busy at flow (upgraded own)) client server shut told now beside found = record { look = refl; so_far = refl; behind = refl; turn = λ answer. refl }
-  finds_by (busy at flow given_head) client server shut told now beside found = record {
-    look = refl;
-    so_far = refl;
-    behind = refl;
-    turn = λ answer. ap (λ u. turn_given_head at (given_at flow now) answer u false) (parked_heard client server shut told now at);
-  }
-  finds_by (busy at flow given_body) client server shut told now beside found = record {
-    look = refl;
-    so_far = refl;
-    behind = refl;
-    turn = λ answer. ap (λ u. turn_whole_answer at flow answer u false) (parked_heard client server shut told now at);
-  }
-  finds_by (next at) client server shut told now beside found = record { look = refl; so_far = refl; behind = refl; turn = λ answer. refl }
-  finds_by over client server shut told now beside found = record { look = refl; so_far = refl; behind = refl; turn = λ answer. refl }
+  finds_by (idle at) client server shut told now follows beside found =
+      idle_finds client server shut told now at (rests_aside side bytes (idle at) at.parked server shut client told now refl refl follows) found
+  finds_by (busy at flow (request_body given most)) client server shut told now follows beside found =
+      request_finds client server shut told now at (rests_aside side bytes (busy at flow (request_body given most)) at.parked server shut client told now refl refl follows) flow given most found
+  finds_by (busy at flow (connection how)) client server shut told now follows beside found =
+      dial_finds client server shut told now at (rests_aside side bytes (busy at flow (connection how)) at.parked server shut client told now refl refl follows) flow how
+  finds_by (busy at flow (response_head own how)) client server true told now follows beside found = head_finds at flow own client server told now how true beside found
+  finds_by (busy at flow (response_head own how)) client server false told now follows beside found = head_finds at flow own client server told now how false beside found
+  finds_by (busy at flow (response_body own how most)) client server true told now follows beside found =
+      body_finds at flow own client server told now how most true (body_aside side bytes at flow own how most client server true told now follows) beside found
+  finds_by (busy at flow (response_body own how most)) client server false told now follows beside found =
+      body_finds at flow own client server told now how most false (body_aside side bytes at flow own how most client server false told now follows) beside found
+  finds_by (busy at flow (coming_down own how)) client server true told now follows beside found = coming_finds at flow own client server told now how true beside found
+  finds_by (busy at flow (coming_down own how)) client server false told now follows beside found = coming_finds at flow own client server told now how false beside found
+  finds_by (busy at flow (upgraded own)) client server shut told now follows beside found = record { look = refl; so_far = refl; behind = refl; turn = λ answer. refl }
+  finds_by (busy at flow given_head) client server shut told now follows beside found =
+      given_finds client server shut told now at (rests_aside side bytes (busy at flow given_head) at.parked server shut client told now refl refl follows) flow
+  finds_by (busy at flow given_body) client server shut told now follows beside found =
+      whole_finds client server shut told now at (rests_aside side bytes (busy at flow given_body) at.parked server shut client told now refl refl follows) flow
+  finds_by (next at) client server shut told now follows beside found =
+      next_finds client server shut told now at (rests_aside side bytes (next at) at.parked server shut client told now refl refl follows)
+  finds_by over client server shut told now follows beside found = record { look = refl; so_far = refl; behind = refl; turn = λ answer. refl }
 
   -- What is found without a piece is found with it, where the client has not closed.
-  pub finds_alike : (stage : Stage) (v : Sight) → v.closed ≡ false → WaitsBeside side stage v → IsFound (look terms stage v) → FindsAlike terms stage v (hears (side_of stage) v piece)
-  finds_alike stage v open_client beside found =
-      let P : Bool → Type 0 = λ b. WaitsBeside side stage (make v.client b v.server v.shut v.told v.now) → IsFound (look terms stage (make v.client b v.server v.shut v.told v.now)) →
+  pub finds_alike : (stage : Stage) (v : Sight) → v.closed ≡ false → MayBeFollowed side stage v → WaitsBeside side stage v → IsFound (look terms stage v) →
+      FindsAlike terms stage v (hears (side_of stage) v piece)
+  finds_alike stage v open_client follows beside found =
+      let P : Bool → Type 0 = λ b. MayBeFollowed side stage (make v.client b v.server v.shut v.told v.now) → WaitsBeside side stage (make v.client b v.server v.shut v.told v.now) →
+      IsFound (look terms stage (make v.client b v.server v.shut v.told v.now)) →
       FindsAlike terms stage (make v.client b v.server v.shut v.told v.now) (hears (side_of stage) (make v.client b v.server v.shut v.told v.now) piece) in
-      subst P (sym open_client) (finds_by stage v.client v.server v.shut v.told v.now) beside found
+      subst P (sym open_client) (finds_by stage v.client v.server v.shut v.told v.now) follows beside found
 
   -- ---- what is left there
 
@@ -654,7 +460,7 @@ module _ (terms : Terms) (readers : ReadersStay) (side : Side) (bytes : List ℕ
   request_leaves at flow given most client server shut told now found =
       let more = piece_of Client piece in
       let item = request_item client in
-      let used : Used = server_parked at.parked (make client false server shut told now) in
+      let used : Used = server_parked (unspoilt_at at (make client false server shut told now)).parked (make client false server shut told now) in
       let whole = body_found flow item (request_item (client ++ more)) now used false (request_stays readers client more)
       (or_found (ends_early flow closed_message now used true) (look_body flow item now used false) found) in
       ap (λ i. left_by i (client ++ more)) whole ∙ left_more item client more (λ head body trailers size is. (request_used chunk_laws client head body trailers size is).1)
@@ -671,16 +477,10 @@ module _ (terms : Terms) (readers : ReadersStay) (side : Side) (bytes : List ℕ
       let more = piece_of (Server own) piece in
       let before : Answers = answer_list asked_head false server in
       let after : Answers = answer_list asked_head false (server ++ more) in
-      let fit = answers_used chunk_laws (length server) asked_head false server in
       let used : Used = ByServer own false in
       let whole : after.final ≡ before.final = returned_found flow before.final after.final now used false (final_stays readers asked_head server more) found in
       let same : after.used ≡ before.used = used_stays readers asked_head server more (returned_begun flow before.final now used false found) in
-      let left = length-drop before.used server in
-      ap (λ i. left_by i (drop after.used (server ++ more))) whole
-      ∙ (ap (λ n. left_by before.final (drop n (server ++ more))) same
-      ∙ (ap (λ l. left_by before.final l) (drop-append-le before.used server more fit.used)
-      ∙ left_more before.final (drop before.used server) more
-      (λ head body trailers size is. let both = fit.final head body trailers size is in let fits = both.1 in omega arith)))
+      left_with asked_head server more whole same
 
   server_quiet : (flow : Flow) (server rest : List ℕ) → rest ≡ [] → left_of_server flow (server ++ rest) ≡ left_of_server flow server ++ rest
   server_quiet flow server rest none =

@@ -1,7 +1,7 @@
 -- Where nothing is found behind passing, a piece is worked off: what is owed then, passing before it and behind it, is what is owed where
 -- the piece was heard before the stage passed.
 use Rattle.std.proofs.Common.{◌≡◌, ℕ, Bool, true, false, List, [], ◌++◌, Option, Some, None, refl, ap, sym, ◌∙◌, subst}
-use Rattle.std.specs.Prelude.{◌&&◌}
+use Rattle.std.specs.Prelude.{◌&&◌, ⊤}
 use Rattle.std.proofs.lemmas.List.{append-nil}
 use Rattle.px_message.specs.declared.flow.Flow.{Flow}
 use Rattle.px_message.specs.declared.response.Response.{Response}
@@ -19,26 +19,27 @@ use Rattle.px_exchange.specs.Flows.{with_body}
 use Rattle.px_exchange.specs.Places.{is_same_address, server_for}
 use Rattle.px_exchange.specs.Requests.{is_head}
 use Rattle.px_exchange.specs.declared.terms.Terms.{Terms}
-use Rattle.px_chain.specs.Chain.{IsOnward, alone, begins_going, behind_flow, come_down, goes_to, goes_up_by, is_alone, is_sequence, is_unheard, look, parked_for, pass, pass_came, pass_given, pass_going, pass_kept, past_came, past_gone, past_kept, reached, sequence, side_if, sight_come, sight_past}
+use Rattle.px_chain.specs.Chain.{IsOnward, alone, behind_flow, come_down, goes_to, goes_up_by, is_alone, is_sequence, keeps_came, look, parked_for, pass, pass_came, pass_given, pass_going, pass_kept, past_came, past_gone, past_kept, reached, sequence, side_if, sight_come, sight_past}
 use Rattle.px_chain.specs.Coming.{Came, came_in, goes_on_behind, streaming, streams_in}
-use Rattle.px_chain.specs.Going.{is_sent, sending_on, sends_going, whole_by, whole_in, with_whole}
+use Rattle.px_chain.specs.Keeping.{is_silent, parks, unspoilt_by}
+use Rattle.px_chain.specs.Going.{goes_up, is_sent, sending_on, sends_going, whole_by, whole_in, with_whole}
 use Rattle.px_chain.specs.Sights.{Sight, left_by, request_in}
 use Rattle.px_chain.specs.Stages.{At, Doing, Parked, Sent, Stage, all_sent, busy, coming_down, connection, given_body, given_head, going_up, idle, next, over, request_body, response_body, response_head, side_of, side_parked, unparked, upgraded}
 use Rattle.px_chain.proofs.GoingLaws.{goes_up_stays}
 use Rattle.px_chain.proofs.ChainLaws.{behind_turn, leaves_by, passes_by}
-use Rattle.px_cuts.specs.Alike.{MayBeCut, NoneBegins, of_apart, of_client}
-use Rattle.px_cuts.specs.Cuts.{GoesUpApart, none_parked, none_streamed}
+use Rattle.px_cuts.specs.Alike.{MayBeFollowed, NoneBegins}
 use Rattle.px_cuts.specs.Shown.{hears}
-use Rattle.px_cuts.proofs.BesideLaws.{RequestSame, begins_none, begins_streamed, begins_unheard, decided_request, not_both, unheard_with, whole_decided}
+use Rattle.px_cuts.proofs.BesideLaws.{RequestSame, decided_request, not_both, whole_decided}
+use Rattle.px_cuts.proofs.FollowLaws.{OwnAside, body_aside, coming_aside, rest_same, rests_aside}
 use Rattle.px_cuts.proofs.ComingLaws.{streams_on}
-use Rattle.px_cuts.proofs.PassLaws.{ComesWith, came_comes, came_ended, given_goes, given_left, kept_comes, left_begun, none_behind, passes_begun, past_heard, tells_ended, text_heard}
+use Rattle.px_cuts.proofs.PassLaws.{ComesWith, came_comes, came_ended, given_goes, given_left, kept_comes, left_begun, passes_begun, past_heard, tells_ended, text_heard}
 use Rattle.px_cuts.proofs.PlaceLaws.{busy_on, make, now_at, over_on, sight_on}
-use Rattle.px_cuts.proofs.StayLaws.{ReadersStay}
+use Rattle.px_cuts.proofs.ItemLaws.{ReadersStay}
 
 -- what a stage may be worked off with
-pub data MayWork (terms : Terms) (side : Side) (stage : Stage) (seen : Sight) : Type 0 where
-  may_cut : MayBeCut terms side stage → MayWork terms side stage seen
-  begins_not : NoneBegins terms.place stage seen → MayWork terms side stage seen
+pub data MayWork (side : Side) (stage : Stage) (seen : Sight) : Type 0 where
+  may_follow : MayBeFollowed side stage seen → MayWork side stage seen
+  begins_not : NoneBegins stage seen → MayWork side stage seen
 
 module _ (terms : Terms) (readers : ReadersStay) (side : Side) (bytes : List ℕ) where
   abbrev piece : Event
@@ -92,8 +93,8 @@ module _ (terms : Terms) (readers : ReadersStay) (side : Side) (bytes : List ℕ
   -- a flow that is finished passes no more
   abbrev Finished : (Stage → Stage) → Bool → At → List Command → Sight → Type 0
   Finished onward goes_on at owed v =
-      let to : Stage = behind_flow goes_on (unparked at) in
-      Works onward owed (onward to) (left_at (onward to) v) (record { owed = owed; stage = to }) (left_at (onward to) (hears None v piece))
+      let to : Stage = behind_flow goes_on at in
+      Works onward owed (onward to) (left_at (onward to) v) (record { owed = owed; stage = to }) (left_at (onward to) (hears (side_of to) v piece))
 
   finished_alone : (goes_on : Bool) (at : At) (owed : List Command) (v : Sight) → Finished alone goes_on at owed v
   finished_alone true at owed v = record { owes = append-nil owed; leads = refl; leaves = refl }
@@ -131,13 +132,13 @@ module _ (terms : Terms) (readers : ReadersStay) (side : Side) (bytes : List ℕ
           let more : Sight = hears (Some own) v piece in
           let Q : Turn Stage Command → Sight → Type 0 = λ whole rest.
           Works onward turned.owed (onward turned.stage) (left_at (onward turned.stage) past) (behind_turn (goes_to stage) whole) (record rest { now = now_at (onward whole.stage) v.now }) in
-          let there : Q turned (hears None past piece) = finished onward goes (is_sent all_sent && goes_on_behind at.flow flow.request came) at turned.owed past in
+          let goes_on : Bool = is_sent all_sent && goes_on_behind at.flow flow.request came in
+          let there : Q turned (hears (side_of turned.stage) past piece) = finished onward goes goes_on (parks (keeps_came at flow all_sent v came) terms.place at flow.request own) turned.owed past in
           let same : come_down terms stage more ≡ turned = comes.stays ∙ is in
-          let rest : sight_come stage more ≡ hears None past piece =
+          let rest : sight_come stage more ≡ hears (side_of turned.stage) past piece =
           comes.leaves
           ∙ (ap (λ t. hears (side_of t.stage) (sight_come stage v) piece) is
-          ∙ (ap (λ l. hears (side_of turned.stage) l piece) left
-          ∙ ap (λ x. hears x past piece) (none_behind (is_sent all_sent && goes_on_behind at.flow flow.request came) at))) in
+          ∙ ap (λ l. hears (side_of turned.stage) l piece) left) in
           subst (λ whole. Q whole (sight_come stage more)) (sym same) (subst (λ l. Q turned l) (sym rest) there)
 
     -- ---- a response that comes down
@@ -160,14 +161,19 @@ module _ (terms : Terms) (readers : ReadersStay) (side : Side) (bytes : List ℕ
       DownAt on past whole left =
           Works onward on.owed (onward on.stage) (record past { now = now_at (onward on.stage) now }) whole (record left { now = now_at (onward whole.stage) now })
 
+      -- behind a response that came whole the piece may follow
+      abbrev OwnFollowed : Flow → Option Came → Type 0
+      OwnFollowed flow None = ⊤
+      OwnFollowed flow (Some came) = OwnAside side bytes flow.request own server shut
+
       -- with all sent
-      came_all : (flow : Flow) (came : Option Came) → came_in flow seen ≡ came →
+      came_all : (flow : Flow) (came : Option Came) → came_in flow seen ≡ came → OwnFollowed flow came →
           DownAt (pass_came terms.place at flow own all_sent seen came) (past_came came seen) (pass terms (busy at flow (coming_down own all_sent)) heard) (sight_past terms (busy at flow (coming_down own all_sent)) heard)
-      came_all flow None is = works_stay onward goes at flow (coming_down own all_sent) seen
-      came_all flow (Some came) is =
+      came_all flow None is aside = works_stay onward goes at flow (coming_down own all_sent) seen
+      came_all flow (Some came) is aside =
           let stage : Stage = busy at flow (coming_down own all_sent) in
           whole_works at flow own seen came stage (ap (λ c. pass_came terms.place at flow own all_sent seen c) is) (ap (λ c. past_came c seen) is)
-          (came_comes terms readers side bytes at own client server shut told now all_sent flow tt
+          (came_comes terms readers side bytes at own client server shut told now all_sent flow (λ other at_it. aside) tt
           (tells_ended terms readers side bytes flow.request own server shut (came_ended flow.response (answer_list (is_head flow.request.method) shut server).final came is)))
 
       -- so it comes down as one of which that was told
@@ -200,25 +206,25 @@ module _ (terms : Terms) (readers : ReadersStay) (side : Side) (bytes : List ℕ
           (ap (λ l. (let there : Sight = record l { now = now_at (onward (pass terms (busy at (streaming flow) (coming_down own how)) heard).stage) now } in there)) leaves
           ∙ ap (λ t. (let there : Sight = record (sight_past terms (busy at flow (response_body own how most)) heard) { now = now_at (onward t.stage) now } in there)) passes)
 
-      kept_all_by : (flow : Flow) (most : Option ℕ) (came : Option Came) → streams_in flow most seen ≡ true → came_in (streaming flow) seen ≡ came →
+      kept_all_by : (flow : Flow) (most : Option ℕ) (came : Option Came) → OwnAside side bytes flow.request own server shut → streams_in flow most seen ≡ true → came_in (streaming flow) seen ≡ came →
           DownAt (pass_came terms.place at (streaming flow) own all_sent seen came) (past_came came seen)
           (pass terms (busy at flow (response_body own all_sent most)) heard) (sight_past terms (busy at flow (response_body own all_sent most)) heard)
-      kept_all_by flow most None streams is =
+      kept_all_by flow most None aside streams is =
           let on = streams_with flow most own client server shut told now streams in
           begun_works all_sent flow most on (begun_same None all_sent flow most on) (begun_left None all_sent flow most on)
-      kept_all_by flow most (Some came) streams is =
+      kept_all_by flow most (Some came) aside streams is =
           let stage : Stage = busy at flow (response_body own all_sent most) in
           whole_works at (streaming flow) own seen came stage
           (ap (λ b. pass_kept b terms.place at flow own all_sent most seen) streams ∙ ap (λ c. pass_came terms.place at (streaming flow) own all_sent seen c) is)
           (ap (λ b. past_kept b (came_in (streaming flow) seen) seen) streams ∙ ap (λ c. past_came c seen) is)
-          (kept_comes terms readers side bytes at own client server shut told now all_sent flow most tt
+          (kept_comes terms readers side bytes at own client server shut told now all_sent flow most aside tt
           (tells_ended terms readers side bytes flow.request own server shut (came_ended (streaming flow).response (answer_list (is_head flow.request.method) shut server).final came is)))
 
-      kept_all : (flow : Flow) (most : Option ℕ) (streams : Bool) → streams_in flow most seen ≡ streams →
+      kept_all : (flow : Flow) (most : Option ℕ) (streams : Bool) → OwnAside side bytes flow.request own server shut → streams_in flow most seen ≡ streams →
           DownAt (pass_kept streams terms.place at flow own all_sent most seen) (past_kept streams (came_in (streaming flow) seen) seen)
           (pass terms (busy at flow (response_body own all_sent most)) heard) (sight_past terms (busy at flow (response_body own all_sent most)) heard)
-      kept_all flow most true is = kept_all_by flow most (came_in (streaming flow) seen) is refl
-      kept_all flow most false is = works_stay onward goes at flow (response_body own all_sent most) seen
+      kept_all flow most true aside is = kept_all_by flow most (came_in (streaming flow) seen) aside is refl
+      kept_all flow most false aside is = works_stay onward goes at flow (response_body own all_sent most) seen
 
       -- while it goes up and is not whole
       came_none : (flow : Flow) (came : Option Came) →
@@ -292,35 +298,40 @@ module _ (terms : Terms) (readers : ReadersStay) (side : Side) (bytes : List ℕ
       abbrev to_of : Flow → Doing → Stage
       to_of flow doing = busy at (with_whole flow now) doing
 
+      whole_aside : (flow : Flow) (came : Option Came) → came_in flow before ≡ came → ((came : Came) → came_in flow before ≡ Some came → OwnAside side bytes flow.request own server shut) →
+          OwnFollowed at own client server shut told now flow came
+      whole_aside flow None is aside = tt
+      whole_aside flow (Some came) is aside = aside came is
+
       head_up : (flow : Flow) (size : Option ℕ) → whole_in before ≡ size → UpAt flow (response_head own going_up) size (whole_in behind)
       head_up flow None is = works_stay onward goes at flow (response_head own going_up) before
       head_up flow (Some size) is =
           whole_on flow (response_head own going_up) size is
           (gone_works flow (to_of flow (response_head own all_sent)) (whole_same flow size is) (works_stay onward goes at (with_whole flow now) (response_head own all_sent) (past_gone (Some own) before)))
 
-      body_up : (flow : Flow) (most : Option ℕ) (size : Option ℕ) → whole_in before ≡ size →
+      body_up : (flow : Flow) (most : Option ℕ) (size : Option ℕ) → OwnAside side bytes flow.request own server shut → whole_in before ≡ size →
           look terms (onward (passes_by size terms at flow (response_body own going_up most) before).stage)
           (record (leaves_by size terms at flow (response_body own going_up most) before) { now = now_at (onward (passes_by size terms at flow (response_body own going_up most) before).stage) now }) ≡ NotYet →
           UpAt flow (response_body own going_up most) size (whole_in behind)
-      body_up flow most None is nothing = kept_none at own client server shut told now flow most (streams_in flow most before) refl nothing
-      body_up flow most (Some size) is nothing =
+      body_up flow most None aside is nothing = kept_none at own client server shut told now flow most (streams_in flow most before) refl nothing
+      body_up flow most (Some size) aside is nothing =
           let whole : Flow = with_whole flow now in
           let left : Sight = past_gone (Some own) before in
           whole_on flow (response_body own going_up most) size is
           (gone_works flow (to_of flow (response_body own all_sent most)) (whole_same flow size is)
-          (kept_all at own (left_by (request_item client) client) server shut told now whole most (streams_in whole most left) refl))
+          (kept_all at own (left_by (request_item client) client) server shut told now whole most (streams_in whole most left) aside refl))
 
-      coming_up : (flow : Flow) (size : Option ℕ) → whole_in before ≡ size →
+      coming_up : (flow : Flow) (size : Option ℕ) → ((came : Came) → came_in flow before ≡ Some came → OwnAside side bytes flow.request own server shut) → whole_in before ≡ size →
           look terms (onward (passes_by size terms at flow (coming_down own going_up) before).stage)
           (record (leaves_by size terms at flow (coming_down own going_up) before) { now = now_at (onward (passes_by size terms at flow (coming_down own going_up) before).stage) now }) ≡ NotYet →
           UpAt flow (coming_down own going_up) size (whole_in behind)
-      coming_up flow None is nothing = came_none at own client server shut told now flow (came_in flow before) nothing
-      coming_up flow (Some size) is nothing =
+      coming_up flow None aside is nothing = came_none at own client server shut told now flow (came_in flow before) nothing
+      coming_up flow (Some size) aside is nothing =
           let whole : Flow = with_whole flow now in
           let left : Sight = past_gone (Some own) before in
           whole_on flow (coming_down own going_up) size is
           (gone_works flow (to_of flow (coming_down own all_sent)) (whole_same flow size is)
-          (came_all at own (left_by (request_item client) client) server shut told now whole (came_in whole left) refl))
+          (came_all at own (left_by (request_item client) client) server shut told now whole (came_in whole left) refl (whole_aside flow (came_in whole left) refl aside)))
 
     -- ---- a request that may begin to go up
 
@@ -346,12 +357,7 @@ module _ (terms : Terms) (readers : ReadersStay) (side : Side) (bytes : List ℕ
           let R : Look Command → Type 0 = IsFound in
           subst R (subst P (busy_on onward goes at (sending_on flow) (connection going_up)) nothing) tt
 
-      up_nothing : GoesUpApart terms kept_stage → begins_going terms.place at flow most v ≡ true → NothingAt (pass_going true terms.place at flow most) → ⊥
-      up_nothing (none_parked is) up nothing =
-          dials_found (subst (λ p. NothingAt (goes_up_by (parked_for terms.place flow.request p) terms.place at (sending_on flow))) is nothing)
-      up_nothing (none_streamed none kept) up nothing = not_both (begins_going terms.place at flow most v) (begins_none terms.place at flow most v kept) up
-
-      -- with a piece of the client it begins to go up as without it, and to the same side
+      -- with the piece it begins to go up as without it, and to the same side
       abbrev up_of : Option ℕ → Stage
       up_of to = goes_up_by to terms.place at (sending_on flow)
 
@@ -370,28 +376,31 @@ module _ (terms : Terms) (readers : ReadersStay) (side : Side) (bytes : List ℕ
       works_parked None nothing = absurd (dials_found nothing)
       works_parked (Some parked) nothing = works_to_side (is_same_address parked.address (server_for terms.place flow.request)) parked.server nothing
 
-      abbrev WorksBy : Bool → Type 0
-      WorksBy up =
-          let w : Sight = hears (side_parked at.parked) v piece in
-          let to : Stage = pass_going true terms.place at flow most in
-          let whole : Turn Stage Command = passes_begun terms (pass_going up terms.place at flow most) w in
-          Works onward (passes_begun terms to v).owed (onward (passes_begun terms to v).stage) (record (left_begun terms to v) { now = now_at (onward (passes_begun terms to v).stage) v.now })
-          whole (record (left_begun terms (pass_going up terms.place at flow most) w) { now = now_at (onward whole.stage) v.now })
+      works_unspoilt : (silent : Bool) → NothingAt (up_of (parked_for terms.place flow.request (unspoilt_by silent at.parked))) →
+          WorksTo (up_of (parked_for terms.place flow.request (unspoilt_by silent at.parked))) (hears (side_parked at.parked) v piece)
+      works_unspoilt true nothing = works_parked at.parked nothing
+      works_unspoilt false nothing = absurd (dials_found nothing)
 
-      begins_with : side ≡ Client → begins_going terms.place at flow most v ≡ true → begins_going terms.place at flow most (hears (side_parked at.parked) v piece) ≡ true
-      begins_with client_piece up =
-          let w : Sight = hears (side_parked at.parked) v piece in
-          ap (λ b. b && is_unheard (parked_for terms.place flow.request at.parked) w)
-          (goes_up_stays most v w (piece_of Client piece, refl) (begins_streamed terms.place at flow most v up))
-          ∙ (unheard_with terms.place flow.request at.parked v side bytes client_piece ∙ begins_unheard terms.place at flow most v up)
+      abbrev heard_kept : Sight
+      heard_kept = hears (side_parked at.parked) v piece
 
-      kept_works : (up : Bool) → begins_going terms.place at flow most v ≡ up → MayWork terms side kept_stage v → NothingAt (pass_going up terms.place at flow most) → KeptAt (pass_going up terms.place at flow most)
-      kept_works true is (may_cut (of_client client_piece)) nothing =
-          let there : WorksBy true = works_parked at.parked nothing in
-          subst WorksBy (sym (begins_with client_piece is)) there
-      kept_works true is (may_cut (of_apart apart)) nothing = absurd (up_nothing apart is nothing)
-      kept_works true is (begins_not none) nothing = absurd (not_both (begins_going terms.place at flow most v) none is)
-      kept_works false is apart nothing = works_stay onward goes at flow (request_body None most) v
+      -- by whether it goes up, and to where
+      abbrev WorksBy : Bool → Stage → Type 0
+      WorksBy up to =
+          let from : Stage = pass_going true terms.place at flow most v in
+          Works onward (passes_begun terms from v).owed (onward (passes_begun terms from v).stage) (record (left_begun terms from v) { now = now_at (onward (passes_begun terms from v).stage) v.now })
+          (passes_begun terms to heard_kept) (record (left_begun terms to heard_kept) { now = now_at (onward (passes_begun terms to heard_kept).stage) v.now })
+
+      kept_works : (up : Bool) → goes_up most v ≡ up → MayWork side kept_stage v → NothingAt (pass_going up terms.place at flow most v) → KeptAt (pass_going up terms.place at flow most v)
+      kept_works true is (may_follow follows) nothing =
+          let aside = rests_aside side bytes kept_stage at.parked server shut client told now refl refl follows in
+          let there : WorksBy true (pass_going true terms.place at flow most v) = works_unspoilt (is_silent server shut) nothing in
+          let on : goes_up most heard_kept ≡ true = goes_up_stays most v heard_kept (piece_of Client piece, refl) is in
+          let to : pass_going true terms.place at flow most heard_kept ≡ pass_going true terms.place at flow most v =
+          ap (λ b. goes_up_by (parked_for terms.place flow.request (unspoilt_by b at.parked)) terms.place at (sending_on flow)) (rest_same side bytes at.parked server shut aside).silent in
+          subst (λ b. WorksBy b (pass_going b terms.place at flow most heard_kept)) (sym on) (subst (λ s. WorksBy true s) (sym to) there)
+      kept_works true is (begins_not none) nothing = absurd (not_both (goes_up most v) none is)
+      kept_works false is work nothing = works_stay onward goes at flow (request_body None most) v
 
     -- ---- where a response is given
 
@@ -436,36 +445,49 @@ module _ (terms : Terms) (readers : ReadersStay) (side : Side) (bytes : List ℕ
           let works : W (goes_to (given_to item)) left = given_by item there in
           subst (λ t. W t (left_begun terms (given_to item) left)) (sym goes_so) (subst (λ x. W (goes_to (given_to item)) x) (sym left_so) works)
 
+    body_of : (at : At) (flow : Flow) (own : ℕ) (how : Sent) (most : Option ℕ) (client server : List ℕ) (shut : Bool) (told now : ℕ) →
+        MayWork side (busy at flow (response_body own how most)) (make client false server shut told now) → OwnAside side bytes flow.request own server shut
+    body_of at flow own how most client server shut told now (may_follow follows) = body_aside side bytes at flow own how most client server shut told now follows
+    body_of at flow own how most client server shut told now (begins_not none) = absurd none
+
+    coming_of : (at : At) (flow : Flow) (own : ℕ) (how : Sent) (client server : List ℕ) (shut : Bool) (told now : ℕ) →
+        MayWork side (busy at flow (coming_down own how)) (make client false server shut told now) → (came : Came) → came_in flow (make client false server shut told now) ≡ Some came →
+        OwnAside side bytes flow.request own server shut
+    coming_of at flow own how client server shut told now (may_follow follows) came is = coming_aside side bytes at flow own how client server shut told now follows came is
+    coming_of at flow own how client server shut told now (begins_not none) came is = absurd none
+
     -- Where nothing is found behind passing, a piece is worked off.
-    works_by : (stage : Stage) (client server : List ℕ) (shut : Bool) (told now : ℕ) → MayWork terms side stage (make client false server shut told now) →
+    works_by : (stage : Stage) (client server : List ℕ) (shut : Bool) (told now : ℕ) → MayWork side stage (make client false server shut told now) →
         look terms (onward (pass terms stage (make client false server shut told now)).stage) (sight_on onward terms stage (make client false server shut told now)) ≡ NotYet →
         WorksAt onward stage (make client false server shut told now)
-    works_by (idle at) client server shut told now apart nothing = idle_works onward goes at (make client false server shut told now)
-    works_by (busy at flow (request_body None most)) client server shut told now apart nothing =
-        kept_works at flow most client server shut told now (begins_going terms.place at flow most (make client false server shut told now)) refl apart nothing
-    works_by (busy at flow (request_body (Some response) most)) client server shut told now apart nothing =
+    works_by (idle at) client server shut told now work nothing = idle_works onward goes at (make client false server shut told now)
+    works_by (busy at flow (request_body None most)) client server shut told now work nothing =
+        kept_works at flow most client server shut told now (goes_up most (make client false server shut told now)) refl work nothing
+    works_by (busy at flow (request_body (Some response) most)) client server shut told now work nothing =
         given_works at flow response most (make client false server shut told now) nothing
-    works_by (busy at flow (connection how)) client server shut told now apart nothing = works_stay onward goes at flow (connection how) (make client false server shut told now)
-    works_by (busy at flow (response_head own all_sent)) client server shut told now apart nothing = works_stay onward goes at flow (response_head own all_sent) (make client false server shut told now)
-    works_by (busy at flow (response_head own going_up)) client server shut told now apart nothing =
+    works_by (busy at flow (connection how)) client server shut told now work nothing = works_stay onward goes at flow (connection how) (make client false server shut told now)
+    works_by (busy at flow (response_head own all_sent)) client server shut told now work nothing = works_stay onward goes at flow (response_head own all_sent) (make client false server shut told now)
+    works_by (busy at flow (response_head own going_up)) client server shut told now work nothing =
         head_up at own client server shut told now flow (whole_in (make client false server shut told now)) refl
-    works_by (busy at flow (response_body own all_sent most)) client server shut told now apart nothing =
-        kept_all at own client server shut told now flow most (streams_in flow most (make client false server shut told now)) refl
-    works_by (busy at flow (response_body own going_up most)) client server shut told now apart nothing =
-        body_up at own client server shut told now flow most (whole_in (make client false server shut told now)) refl nothing
-    works_by (busy at flow (coming_down own all_sent)) client server shut told now apart nothing =
-        came_all at own client server shut told now flow (came_in flow (make client false server shut told now)) refl
-    works_by (busy at flow (coming_down own going_up)) client server shut told now apart nothing =
-        coming_up at own client server shut told now flow (whole_in (make client false server shut told now)) refl nothing
-    works_by (busy at flow (upgraded own)) client server shut told now apart nothing = works_stay onward goes at flow (upgraded own) (make client false server shut told now)
-    works_by (busy at flow given_head) client server shut told now apart nothing = works_stay onward goes at flow given_head (make client false server shut told now)
-    works_by (busy at flow given_body) client server shut told now apart nothing = works_stay onward goes at flow given_body (make client false server shut told now)
-    works_by (next at) client server shut told now apart nothing = next_works onward goes at (make client false server shut told now)
-    works_by over client server shut told now apart nothing = over_works onward goes (make client false server shut told now)
+    works_by (busy at flow (response_body own all_sent most)) client server shut told now work nothing =
+        kept_all at own client server shut told now flow most (streams_in flow most (make client false server shut told now)) (body_of at flow own all_sent most client server shut told now work) refl
+    works_by (busy at flow (response_body own going_up most)) client server shut told now work nothing =
+        body_up at own client server shut told now flow most (whole_in (make client false server shut told now)) (body_of at flow own going_up most client server shut told now work) refl nothing
+    works_by (busy at flow (coming_down own all_sent)) client server shut told now work nothing =
+        let seen : Sight = make client false server shut told now in
+        came_all at own client server shut told now flow (came_in flow seen) refl
+        (whole_aside at own client server shut told now flow (came_in flow seen) refl (coming_of at flow own all_sent client server shut told now work))
+    works_by (busy at flow (coming_down own going_up)) client server shut told now work nothing =
+        coming_up at own client server shut told now flow (whole_in (make client false server shut told now)) (coming_of at flow own going_up client server shut told now work) refl nothing
+    works_by (busy at flow (upgraded own)) client server shut told now work nothing = works_stay onward goes at flow (upgraded own) (make client false server shut told now)
+    works_by (busy at flow given_head) client server shut told now work nothing = works_stay onward goes at flow given_head (make client false server shut told now)
+    works_by (busy at flow given_body) client server shut told now work nothing = works_stay onward goes at flow given_body (make client false server shut told now)
+    works_by (next at) client server shut told now work nothing = next_works onward goes at (make client false server shut told now)
+    works_by over client server shut told now work nothing = over_works onward goes (make client false server shut told now)
 
-    pub works : (stage : Stage) (v : Sight) → v.closed ≡ false → MayWork terms side stage v → look terms (onward (pass terms stage v).stage) (sight_on onward terms stage v) ≡ NotYet → WorksAt onward stage v
-    works stage v open_client apart nothing =
-        let P : Bool → Type 0 = λ b. MayWork terms side stage (make v.client b v.server v.shut v.told v.now) →
+    pub works : (stage : Stage) (v : Sight) → v.closed ≡ false → MayWork side stage v → look terms (onward (pass terms stage v).stage) (sight_on onward terms stage v) ≡ NotYet → WorksAt onward stage v
+    works stage v open_client work nothing =
+        let P : Bool → Type 0 = λ b. MayWork side stage (make v.client b v.server v.shut v.told v.now) →
         look terms (onward (pass terms stage (make v.client b v.server v.shut v.told v.now)).stage) (sight_on onward terms stage (make v.client b v.server v.shut v.told v.now)) ≡ NotYet →
         WorksAt onward stage (make v.client b v.server v.shut v.told v.now) in
-        subst P (sym open_client) (works_by stage v.client v.server v.shut v.told v.now) apart nothing
+        subst P (sym open_client) (works_by stage v.client v.server v.shut v.told v.now) work nothing

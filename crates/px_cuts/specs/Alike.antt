@@ -9,16 +9,19 @@ use Rattle.px_event.specs.declared.side.Side.{Side}
 use Rattle.px_event.specs.Alike.{Alike, IsLikeness, Unhurried}
 use Rattle.px_event.specs.Chain.{later, Stamp, Stamped, Timed}
 use Rattle.px_event.specs.Laws.{IsFound}
-use Rattle.px_exchange.specs.declared.place.Place.{Place}
 use Rattle.px_exchange.specs.declared.terms.Terms.{Terms}
-use Rattle.px_chain.specs.Chain.{IsOnward, begins_going, http_chain}
+use Rattle.px_chain.specs.Chain.{IsOnward, http_chain}
+use Rattle.px_chain.specs.Coming.{came_in}
+use Rattle.px_chain.specs.Going.{goes_up}
+use Rattle.px_chain.specs.Keeping.{is_silent}
 use Rattle.px_read.specs.Items.{Item, bad_body, complete}
 use Rattle.px_read.specs.Laws.{is_begun}
 use Rattle.px_read.specs.declared.head.RequestHead.{RequestHead}
 use Rattle.px_event.specs.declared.side.Side.TheVariants.{Client, Server}
 use Rattle.px_chain.specs.Sights.{Sight, Standing, answers_in, request_in}
-use Rattle.px_cuts.specs.Cuts.{AlikeSeen, GoesUpApart, MayBeHeard, MayStand, MayWaitFor, retimed}
-use Rattle.px_chain.specs.Stages.{Stage, busy, coming_down, going_up, request_body, response_body, response_head, side_of}
+use Rattle.px_cuts.specs.Cuts.{AlikeSeen, MayBeHeard, MayStand, MayWaitFor, is_of, keeps_coming, keeps_own, retimed}
+use Rattle.px_chain.specs.Stages.{Doing, Stage, busy, coming_down, going_up, idle, next, over, request_body, response_body, response_head, side_of, upgraded}
+use Rattle.px_message.specs.declared.flow.Flow.{Flow}
 use Rattle.px_cuts.specs.Shown.{hears, look_over, moment_at, passed_over, retimed_stage, shown_over}
 use Rattle.px_chain.specs.Streams.{client_closed, now_over}
 
@@ -71,23 +74,39 @@ WaitsBeside side (busy at flow (response_body server going_up most)) seen = IsBe
 WaitsBeside side (busy at flow (coming_down server going_up)) seen = IsBeside side server (request_in seen) (ends_here flow.response (answers_in flow.request seen).final)
 WaitsBeside side stage seen = ⊤
 
--- ---- a piece that waits before a request begins to go up
+-- ---- a piece that waits behind what was seen of a server's side
 
--- A piece of this side may wait from here on: it is the client's, or what a parked side says early meets no request that is streamed.
-pub data MayBeCut (terms : Terms) (side : Side) (stage : Stage) : Type 0 where
-  of_client : side ≡ Client → MayBeCut terms side stage
-  of_apart : GoesUpApart terms stage → MayBeCut terms side stage
+-- With what is seen of the side that is open it is kept: it is parked and silent, or a whole response ends here behind which it is kept.
+abbrev pub keeps_in : Flow → Doing → Sight → Bool
+keeps_in flow (response_head server sent) seen = keeps_own flow.request seen
+keeps_in flow (response_body server sent most) seen = keeps_own flow.request seen
+keeps_in flow (coming_down server sent) seen = keeps_coming flow.request seen (came_in flow seen)
+keeps_in flow (upgraded server) seen = false
+keeps_in flow doing seen = is_silent seen.server seen.shut
 
--- no request begins to go up here
-abbrev pub NoneBegins : Place → Stage → Sight → Type 0
-NoneBegins place (busy at flow (request_body None most)) seen = begins_going place at flow most seen ≡ false
-NoneBegins place stage seen = ⊤
+abbrev pub keeps_at : Stage → Sight → Bool
+keeps_at (idle at) seen = is_silent seen.server seen.shut
+keeps_at (busy at flow doing) seen = keeps_in flow doing seen
+keeps_at (next at) seen = is_silent seen.server seen.shut
+keeps_at over seen = false
 
--- A piece of this side may wait at a place: so it may from there on, or it waits for nothing, and no request begins to go up before it.
+-- A piece of this side may follow what is seen: it is none of the side that is open, or that is not kept in any case.
+pub data MayBeFollowed (side : Side) (stage : Stage) (seen : Sight) : Type 0 where
+  apart : is_of (side_of stage) side ≡ false → MayBeFollowed side stage seen
+  unkept : keeps_at stage seen ≡ false → MayBeFollowed side stage seen
+
+-- no flow uses a side here, and no request begins to go up
+abbrev pub NoneBegins : Stage → Sight → Type 0
+NoneBegins (busy at flow (request_body None most)) seen = goes_up most seen ≡ false
+NoneBegins (busy at flow (response_head server sent)) seen = ⊥
+NoneBegins (busy at flow (response_body server sent most)) seen = ⊥
+NoneBegins (busy at flow (coming_down server sent)) seen = ⊥
+NoneBegins stage seen = ⊤
+
+-- A piece of this side may wait at a place: it may follow what is seen there, or it waits for nothing, and no request begins to go up before it.
 pub data MayWait (see : ℕ → ℕ) (onward : Stage → Stage) (terms : Terms) (side : Side) (s : Standing) (f : List (Timed Event)) : Type 0 where
-  on_from : MayBeCut terms side s.stage → MayWait see onward terms side s f
-  for_nothing : (IsFound (look_over terms (passed_over onward terms s f) f) → ⊥) → NoneBegins terms.place s.stage (shown_over see s f) →
-      MayWait see onward terms side s f
+  on_from : MayBeFollowed side s.stage (shown_over see s f) → MayWait see onward terms side s f
+  for_nothing : (IsFound (look_over terms (passed_over onward terms s f) f) → ⊥) → NoneBegins s.stage (shown_over see s f) → MayWait see onward terms side s f
 
 -- ---- a piece that waits behind the one place, and was heard in the other
 

@@ -1,7 +1,8 @@
 -- However the network cuts the bytes into pieces, what is due is the same: the words of these laws.
-use Rattle.std.specs.Prelude.{◌≡◌, ℕ, ◌<◌, ◌≤◌, false, List, [], ◌∷◌, ◌++◌, map, if◌then◌else◌, Option, Some, None, ⊤}
+use Rattle.std.specs.Prelude.{◌≡◌, ℕ, ◌<◌, ◌≤◌, Bool, true, false, ◌&&◌, List, [], ◌∷◌, ◌++◌, map, if◌then◌else◌, Option, Some, None, ⊤}
 use Rattle.px_message.specs.declared.flow.Flow.{Flow}
 use Rattle.px_message.specs.declared.flow.FlowError.{FlowError}
+use Rattle.px_message.specs.declared.request.Request.{Request}
 use Rattle.px_event.specs.declared.command.Command.{Command}
 use Rattle.px_event.specs.declared.command.Command.TheVariants as commands
 use Rattle.px_event.specs.declared.event.Event.{Event}
@@ -10,12 +11,17 @@ use Rattle.px_event.specs.declared.reply.Reply.{Reply}
 use Rattle.px_event.specs.declared.reply.Reply.TheVariants as replies
 use Rattle.px_event.specs.declared.side.Side.{Side}
 use Rattle.px_event.specs.declared.side.Side.TheVariants.{Client, Server}
-use Rattle.px_event.specs.Chain.{later, Stamp, Stamped, Timed}
+use Rattle.px_event.specs.Chain.{later, NotYet, Stamp, Stamped, Stop, Timed, walk_from}
 use Rattle.px_event.specs.Trace.{is_same_side}
+use Rattle.px_read.specs.Items.{Item, complete}
+use Rattle.px_read.specs.declared.head.ResponseHead.{ResponseHead as ReadResponse}
 use Rattle.px_exchange.specs.declared.terms.Terms.{Terms}
-use Rattle.px_chain.specs.Chain.{going_at}
-use Rattle.px_chain.specs.Sights.{IsWithin, Standing}
-use Rattle.px_chain.specs.Stages.{At, Doing, Parked, Stage, busy, coming_down, idle, next, over, place_of, request_body, response_body, response_head, side_of, upgraded}
+use Rattle.px_exchange.specs.Endings.{read_persists, sent_persists}
+use Rattle.px_chain.specs.Chain.{going_at, http_chain, look}
+use Rattle.px_chain.specs.Coming.{Came, came_in}
+use Rattle.px_chain.specs.Keeping.{keeps_side}
+use Rattle.px_chain.specs.Sights.{IsWithin, Sight, Standing, answers_in, left_by_answers, sight_over, sight_with}
+use Rattle.px_chain.specs.Stages.{At, Doing, Parked, Stage, busy, coming_down, idle, next, over, place_of, response_body, response_head, side_of, side_parked, upgraded}
 
 -- ---- the moments inside what is owed, each seen through a function
 
@@ -94,11 +100,6 @@ abbrev pub IsDialled : ℕ → Stage → Type 0
 IsDialled server over = ⊤
 IsDialled server stage = server < (place_of stage).dials
 
--- no size was allowed to the request whose body is awaited
-abbrev pub KeepsRequest : Stage → Type 0
-KeepsRequest (busy at flow (request_body None most)) = most ≡ None
-KeepsRequest stage = ⊤
-
 -- the side that waits there for a flow: where a flow uses a side, none does
 abbrev pub parked_in : At → Doing → Option Parked
 parked_in at (response_head server sent) = None
@@ -113,10 +114,14 @@ parked_at (busy at flow doing) = parked_in at doing
 parked_at (next at) = at.parked
 parked_at over = None
 
--- From here on no request that is streamed goes to a side that was parked before: none is parked, or no request is streamed.
-pub data GoesUpApart (terms : Terms) (stage : Stage) : Type 0 where
-  none_parked : parked_at stage ≡ None → GoesUpApart terms stage
-  none_streamed : terms.streams ≡ false → KeepsRequest stage → GoesUpApart terms stage
+-- the side is that of this server
+abbrev pub is_of : Option ℕ → Side → Bool
+is_of None side = false
+is_of (Some server) side = is_same_side side (Server server)
+
+-- The side is not parked there: what comes of it ends no keeping.
+abbrev pub IsNotParked : Side → Stage → Type 0
+IsNotParked side stage = is_of (side_parked (parked_at stage)) side ≡ false
 
 -- the reply allows no size
 abbrev pub AllowsNoSize : Reply → Type 0
@@ -164,3 +169,81 @@ piece_at stamp side bytes = record { stamp = stamp; value = events.Piece side by
 -- bytes of the side that came in their own step
 abbrev pub as_piece : Side → Stamped (List ℕ) → Stamped Event
 as_piece side bytes = piece_at bytes.stamp side bytes.value
+
+-- ---- what stands behind a response
+
+-- Two GETs of a client come at once, for one host, and of its server a whole response and then `X`. In one piece with that response `X` is stray, and
+-- the side is closed. In the next piece it is heard when the second request has gone to the side, which was kept: so it begins the response to that.
+
+-- where a walk stops
+abbrev pub HttpStop : Type 0
+HttpStop = Stop Standing Event Reply Command
+
+-- The next event is heard there: nothing is found before it.
+abbrev pub HearsNext : Terms → HttpStop → Type 0
+HearsNext terms w = look terms w.stage.stage (sight_over w.stage w.prefix) ≡ NotYet
+
+-- what is seen there with this event
+abbrev pub seen_with : HttpStop → Event → Sight
+seen_with w event = sight_with (side_of w.stage.stage) (sight_over w.stage w.prefix) event (sight_over w.stage w.prefix).now
+
+-- a response that is whole, and behind which its side is kept
+abbrev pub keeps_by : Request → Sight → Item ReadResponse → Bool
+keeps_by request seen (complete head body trailers size) = keeps_side request seen head
+keeps_by request seen item = false
+
+-- the final one to this request
+abbrev pub keeps_own : Request → Sight → Bool
+keeps_own request seen = keeps_by request seen (answers_in request seen).final
+
+-- one that is streamed
+abbrev pub keeps_coming : Request → Sight → Option Came → Bool
+keeps_coming request seen None = false
+keeps_coming request seen (Some came) = keeps_side request seen came.head
+
+-- the one that a flow awaits which uses a side
+abbrev pub keeps_behind : Stage → Sight → Bool
+keeps_behind (busy at flow (response_head server sent)) seen = keeps_own flow.request seen
+keeps_behind (busy at flow (response_body server sent most)) seen = keeps_own flow.request seen
+keeps_behind (busy at flow (coming_down server sent)) seen = keeps_coming flow.request seen (came_in flow seen)
+keeps_behind stage seen = false
+
+-- More of a side may follow what is seen. It is the client's, or of a server whose side is not open there; or it is no byte; or what is seen ends no
+-- response behind which the side is kept.
+pub data MayFollow (side : Side) (more : List ℕ) (stage : Stage) (seen : Sight) : Type 0 where
+  of_other : is_of (side_of stage) side ≡ false → MayFollow side more stage seen
+  no_byte : more ≡ [] → MayFollow side more stage seen
+  not_kept : keeps_behind stage seen ≡ false → MayFollow side more stage seen
+
+-- A piece may be cut in two where its first half is heard: the second may follow.
+abbrev pub MayBeCut : Terms → HttpStop → Side → (bytes more : List ℕ) → Type 0
+MayBeCut terms w side bytes more = HearsNext terms w → MayFollow side more w.stage.stage (seen_with w (events.Piece side bytes))
+
+abbrev pub has_byte : List ℕ → Bool
+has_byte [] = false
+has_byte (byte ∷ more) = true
+
+-- Bytes stand behind a response that is whole, and without them its side would be kept: they are stray.
+abbrev pub strays_by : Request → Sight → Item ReadResponse → Bool
+strays_by request seen (complete head body trailers size) =
+    has_byte (left_by_answers (answers_in request seen) seen.server) && (sent_persists request && read_persists request head)
+strays_by request seen item = false
+
+abbrev pub strays_own : Request → Sight → Bool
+strays_own request seen = strays_by request seen (answers_in request seen).final
+
+abbrev pub strays_behind : Stage → Sight → Bool
+strays_behind (busy at flow (response_head server sent)) seen = strays_own flow.request seen
+strays_behind (busy at flow (response_body server sent most)) seen = strays_own flow.request seen
+strays_behind (busy at flow (coming_down server sent)) seen = strays_own flow.request seen
+strays_behind stage seen = false
+
+-- Where this event is heard, nothing stray stands behind a response with it.
+abbrev pub NoneStrays : Terms → HttpStop → Event → Type 0
+NoneStrays terms w event = HearsNext terms w → strays_behind w.stage.stage (seen_with w event) ≡ false
+
+-- So it is of each of these events, behind all before it.
+abbrev pub NothingStrays : (Stage → Stage) → Terms → Standing → List (Stamped Reply) → (before these : List (Stamped Event)) → Type 0
+NothingStrays onward terms start replies before [] = ⊤
+NothingStrays onward terms start replies before (e ∷ these) =
+    NoneStrays terms (walk_from (http_chain onward terms) start before replies) e.value × NothingStrays onward terms start replies (before ++ e ∷ []) these

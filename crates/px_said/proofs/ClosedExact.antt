@@ -20,6 +20,7 @@ use Rattle.px_exchange.specs.Finds.{look_answer, look_head, or_leaves}
 use Rattle.px_exchange.specs.Requests.{is_http11}
 use Rattle.px_exchange.specs.Texts.{interim_command, interim_commands, sends_on}
 use Rattle.px_chain.specs.Chain.{finds, leaves, leaving, look, so_far}
+use Rattle.px_chain.specs.Keeping.{unspoilt, unspoilt_at}
 use Rattle.px_said.specs.ClosedForm.{Point, dial_answers, is_whole, request_is_whole, said, said_final, said_from, said_item}
 use Rattle.px_chain.specs.Sights.{Sight, UsedBytes, answers_in, request_in, server_in, server_parked, sight_of}
 use Rattle.px_chain.specs.Stages.{At, Doing, Stage, all_sent, busy, connection, going_up, given_body, given_head, idle, next, over, request_body, response_body, response_head, side_of, side_parked, upgraded, coming_down}
@@ -27,7 +28,7 @@ use Rattle.px_chain.specs.Streams.{Since, bytes_of}
 use Rattle.px_said.proofs.ClosedFronts.{IsFront, IsSame, same_bytes, same_taken, waits_more}
 use Rattle.px_said.proofs.ClosedItems.{items_after, items_split}
 use Rattle.px_said.proofs.ClosedLooks.{Here, answer_tells, body_tells, head_tells, here_waiting, here_with, no_answer, no_body, no_request, no_return, none_found, returned_tells}
-use Rattle.px_said.proofs.ClosedQuiet.{early_said, says_interim, says_server}
+use Rattle.px_said.proofs.ClosedQuiet.{early_said, says_interim, says_server, says_waiting}
 use Rattle.px_said.proofs.ClosedReturns.{answers_carried, answers_same}
 use Rattle.px_said.proofs.ClosedStages.{Answering, IsAt, IsDoing, Onward, all_bytes, behind_answer, further_after, standing, told}
 use Rattle.px_said.proofs.ClosedTurns.{client_carried}
@@ -58,14 +59,15 @@ module _ (terms : Terms) (events : List (Timed Event)) (all : List Command) wher
         IsAt terms events all flows (idle at) opened used come sent replies → IsFront prefix events → Stood (idle at) (sight_of (side_parked at.parked) since opened used up prefix) sent prefix
     idle_stood at since opened used up come sent replies prefix b is =
         let seen = sight_of (side_parked at.parked) since opened used up prefix in
-        let parked = server_parked at.parked seen in
+        let parked = server_parked (unspoilt_at at seen).parked seen in
         let bytes = drop used.client (all_bytes terms events all) in
         let point = standing at opened used b.from (dial_answers replies) in
         let further : Point → List Command = λ there. said_from terms events there (take flows (items_after bytes)) in
         record {
           left = said_item terms events point (request_item bytes) further;
           is = b.rest ∙ ap (λ l. said sent ++ said_from terms events point (take (suc flows) l)) (items_split bytes);
-          here = here_with (IsSame prefix events) seen.closed (leaving (idle at) seen) (look_head terms at.flow (request_in seen) seen.now parked seen.closed) [] [] _ refl
+          here = here_with (IsSame prefix events) seen.closed (leaving (unspoilt (idle at) seen) seen) (look_head terms at.flow (request_in seen) seen.now parked seen.closed)
+              (so_far terms (idle at) seen) [] _ (says_waiting (idle at) seen).is
               (says_server parked).is
               (head_tells (IsSame prefix events) terms events point further at.flow (request_in seen) (request_item bytes) seen.now parked seen.closed
               (client_carried terms events all used.client prefix is) (request_same used.client prefix));
@@ -76,13 +78,16 @@ module _ (terms : Terms) (events : List (Timed Event)) (all : List Command) wher
         Stood (busy at flow (request_body None None)) (sight_of (side_parked at.parked) since opened used up prefix) sent prefix
     body_stood at flow since opened used up come sent replies prefix b is =
         let seen = sight_of (side_parked at.parked) since opened used up prefix in
-        let parked = server_parked at.parked seen in
+        let there = unspoilt_at at seen in
+        let parked = server_parked there.parked seen in
+        let body : Stage = busy at flow (request_body None None) in
         let bytes = drop used.client (all_bytes terms events all) in
         let point = standing at opened used b.from (dial_answers replies) in
         record {
           left = _;
           is = b.rest;
-          here = here_with (IsSame prefix events) seen.closed (leaves at flow (request_body None None) seen) (finds terms.place at flow (request_body None None) seen) [] [] _ refl
+          here = here_with (IsSame prefix events) seen.closed (leaves there flow (request_body None None) seen) (finds terms.place there flow (request_body None None) seen)
+              (so_far terms body seen) [] _ (says_waiting body seen).is
               (early_said flow closed_message seen.now parked true)
               (body_tells (IsSame prefix events) terms events point (further_after terms events all flows used.client) flow (request_in seen) (request_item bytes) seen.now parked seen.closed
               (client_carried terms events all used.client prefix is) (request_same used.client prefix));
@@ -92,10 +97,12 @@ module _ (terms : Terms) (events : List (Timed Event)) (all : List Command) wher
         IsDoing terms events all flows at flow (connection all_sent) opened used come sent replies → Stood (busy at flow (connection all_sent)) (sight_of (side_parked at.parked) since opened used up prefix) sent prefix
     connecting_stood at flow since opened used up come sent replies prefix c =
         let seen = sight_of (side_parked at.parked) since opened used up prefix in
+        let dialling : Stage = busy at flow (connection all_sent) in
         record {
           left = _;
           is = c.rest;
-          here = here_with (IsSame prefix events) seen.closed [] (finds terms.place at flow (connection all_sent) seen) [] [] _ refl refl ((_, refl), λ goes. goes);
+          here = here_with (IsSame prefix events) seen.closed [] (finds terms.place (unspoilt_at at seen) flow (connection all_sent) seen) (so_far terms dialling seen) [] _
+              (says_waiting dialling seen).is refl ((_, refl), λ goes. goes);
         }
 
     -- over all events the responses that are seen are all
@@ -232,7 +239,7 @@ module _ (terms : Terms) (events : List (Timed Event)) (all : List Command) wher
 
     doing_more : (at : At) (flow : Flow) (doing : Doing) (since : Since) (opened : ℕ) (used : UsedBytes) (up : ℕ) (sent : List Command) (replies : List Reply) (prefix : List (Timed Event)) → IsFront prefix events →
         let seen = sight_of (side_of (busy at flow doing)) since opened used up prefix in
-        finds terms.place at flow doing seen ≡ NotYet → IsDoing terms events all flows at flow doing opened used (length prefix) sent replies →
+        finds terms.place (unspoilt_at at seen) flow doing seen ≡ NotYet → IsDoing terms events all flows at flow doing opened used (length prefix) sent replies →
         IsDoing terms events all flows at flow doing opened used (length prefix + 1) sent replies
     doing_more at flow (request_body None None) since opened used up sent replies prefix is none b =
         let seen = sight_of (side_parked at.parked) since opened used up prefix in
@@ -240,7 +247,7 @@ module _ (terms : Terms) (events : List (Timed Event)) (all : List Command) wher
           from = b.from;
           within = let so_many = b.within in omega arith;
           waits = waits_more (request_is_whole events used.client) b.from (length prefix) b.waits
-              (asks_here used.client prefix is (no_body flow (request_in seen) seen.now (server_parked at.parked seen) seen.closed none));
+              (asks_here used.client prefix is (no_body flow (request_in seen) seen.now (server_parked (unspoilt_at at seen).parked seen) seen.closed none));
           head = b.head;
           there = b.there;
           accepted = b.accepted;
@@ -288,12 +295,13 @@ module _ (terms : Terms) (events : List (Timed Event)) (all : List Command) wher
           from = b.from;
           within = let so_many = b.within in omega arith;
           waits = waits_more (request_is_whole events used.client) b.from (length prefix) b.waits
-              (asks_here used.client prefix is (no_request terms at.flow (request_in seen) seen.now (server_parked at.parked seen) seen.closed
-              (none_found seen.closed (leaving (idle at) seen) _ none)));
+              (asks_here used.client prefix is (no_request terms at.flow (request_in seen) seen.now (server_parked (unspoilt_at at seen).parked seen) seen.closed
+              (none_found seen.closed (leaving (unspoilt (idle at) seen) seen) _ none)));
           rest = b.rest;
         }
     stage_more (busy at flow doing) since opened used up sent replies prefix is none stands =
         let seen = sight_of (side_of (busy at flow doing)) since opened used up prefix in
-        doing_more at flow doing since opened used up sent replies prefix is (none_found seen.closed (leaves at flow doing seen) (finds terms.place at flow doing seen) none) stands
+        let there = unspoilt_at at seen in
+        doing_more at flow doing since opened used up sent replies prefix is (none_found seen.closed (leaves there flow doing seen) (finds terms.place there flow doing seen) none) stands
     stage_more (next at) since opened used up sent replies prefix is none stands = absurd stands
     stage_more over since opened used up sent replies prefix is none stands = stands

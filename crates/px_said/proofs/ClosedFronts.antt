@@ -65,7 +65,7 @@ same_taken [] events is = tt
 same_taken (e ∷ prefix) [] is = absurd is
 same_taken (e ∷ prefix) (x ∷ events) is = (is.0, same_taken prefix events is.1)
 
-same_behind : (n : ℕ) (prefix events : List (Timed Event)) → IsSame prefix events → IsSame (drop n prefix) (drop n events)
+pub same_behind : (n : ℕ) (prefix events : List (Timed Event)) → IsSame prefix events → IsSame (drop n prefix) (drop n events)
 same_behind zero prefix events is = is
 same_behind (suc n) [] [] is = tt
 same_behind (suc n) [] (x ∷ events) is = absurd is
@@ -133,7 +133,7 @@ drop_on (suc n) [] ys = (drop (suc n) ys, refl)
 drop_on (suc n) (x ∷ xs) ys = drop_on n xs ys
 
 -- so do those behind the first of them
-grows_behind : (used : ℕ) (bytes all : List ℕ) (shut ended : Bool) → Grows bytes shut all ended → Grows (drop used bytes) shut (drop used all) ended
+pub grows_behind : (used : ℕ) (bytes all : List ℕ) (shut ended : Bool) → Grows bytes shut all ended → Grows (drop used bytes) shut (drop used all) ended
 grows_behind used bytes all shut ended on =
     let further = drop_on used bytes on.more in
     record { more = further.0; grown = ap (drop used) on.grown ∙ further.1; shuts = λ e. (let both = on.shuts e in (both.0, ap (drop used) both.1)) }

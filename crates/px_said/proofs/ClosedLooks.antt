@@ -10,7 +10,7 @@ use Rattle.px_event.specs.declared.ask.Hook.{Hook}
 use Rattle.px_event.specs.declared.ask.Hook.TheVariants.{ResponseHead}
 use Rattle.px_event.specs.declared.command.Command.{Command}
 use Rattle.px_event.specs.declared.event.Event.{Event}
-use Rattle.px_event.specs.Chain.{Timed, Look, NotYet, Asks, Ends, found}
+use Rattle.px_event.specs.Chain.{Timed, Turn, Look, NotYet, Asks, Ends, found}
 use Rattle.px_event.proofs.Growth.{prefix_behind}
 use Rattle.px_read.specs.Items.{Item, missing, part, complete, bad_head, bad_body}
 use Rattle.px_read.specs.Laws.{head_in}
@@ -26,7 +26,24 @@ use Rattle.px_exchange.specs.Finds.{is_relayed, look_answer, look_answer_head, l
 use Rattle.px_exchange.specs.Flows.{ask_of, response_of, with_answer}
 use Rattle.px_exchange.specs.Requests.{is_head, judged}
 use Rattle.px_said.specs.ClosedForm.{GoesOn, Point, is_whole, said, said_asked, said_final, said_headed, said_item, said_judged, said_relayed, said_returned, said_whole}
+use Rattle.px_chain.specs.Stages.{Stage}
 use Rattle.px_said.proofs.ClosedQuiet.{refused_said, said_join, says_fault}
+
+-- ---- nothing asked
+
+pub asks_nothing : (closed : Bool) (leaving : List Command) (ask : Command) → or_leaves closed leaving NotYet ≡ Asks ask → ⊥
+asks_nothing true leaving ask is = let no : Ends leaving ≡ Asks ask = is in cc
+asks_nothing false leaving ask is = let no : NotYet ≡ Asks ask = is in cc
+
+pub ends_ask : (owed : List Command) (ask : Command) → Ends owed ≡ Asks ask → ⊥
+ends_ask owed ask is = cc
+
+pub asks_same : (one ask : Command) → Asks one ≡ Asks ask → one ≡ ask
+asks_same one ask is = cc
+
+-- what a reply brings, behind what was owed behind the ask
+abbrev pub behind_these : List Command → Turn Stage Command → Turn Stage Command
+behind_these parts turned = record turned { owed = parts ++ turned.owed }
 
 -- ---- what is found, and what is left
 

@@ -30,9 +30,8 @@ use Rattle.px_read.specs.Laws.{head_in}
 use Rattle.px_parts.specs.Streamed.{request_says, response_says, streamed_by, streams_behind}
 use Rattle.px_parts.specs.Texts.{final_bytes}
 use Rattle.px_chain.specs.Coming.{allowed_by, streams_by, streams_in, told_with}
-use Rattle.px_chain.specs.Chain.{begins_going, is_unheard, parked_for}
-use Rattle.px_chain.specs.Stages.{At}
-use Rattle.px_exchange.specs.declared.place.Place.{Place}
+use Rattle.px_chain.specs.Keeping.{shut_by_byte, shut_stray, strays}
+use Rattle.px_chain.specs.Stages.{At, Doing, Parked, Stage, busy, coming_down, connection, given_body, given_head, idle, next, over, request_body, response_body, response_head, upgraded}
 use Rattle.px_chain.specs.Going.{allowed_up_by, goes_up}
 use Rattle.px_chain.specs.Sights.{Sight}
 
@@ -43,7 +42,7 @@ said_join a b = flat_map-append said_of a b
 abbrev pub Skips : List Command → Type 0
 Skips owed = (waits : Bool) (rest : List Command) (replies : List Reply) → GoesOn waits (owed ++ rest) replies → GoesOn waits rest replies
 
-skip_both : (a b : List Command) → Skips a → Skips b → Skips (a ++ b)
+pub skip_both : (a b : List Command) → Skips a → Skips b → Skips (a ++ b)
 skip_both a b first second waits rest replies goes =
     let P : List Command → Type 0 = λ l. GoesOn waits l replies in
     second waits rest replies (first waits (b ++ rest) replies (subst P (append_assoc a b rest) goes))
@@ -52,7 +51,7 @@ skip_both a b first second waits rest replies goes =
 abbrev pub Keeps : List Command → Type 0
 Keeps owed = (more : ℕ) (rest : List Command) → first_flows (suc more) (owed ++ rest) ≡ owed ++ first_flows (suc more) rest
 
-keep_both : (a b : List Command) → Keeps a → Keeps b → Keeps (a ++ b)
+pub keep_both : (a b : List Command) → Keeps a → Keeps b → Keeps (a ++ b)
 keep_both a b first second more rest =
     ap (first_flows (suc more)) (append_assoc a b rest) ∙ (first more (b ++ rest) ∙ (ap (λ l. a ++ l) (second more rest) ∙ sym (append_assoc a b _)))
 
@@ -85,6 +84,10 @@ says_both a b first second = record {
   skips = skip_both a b first.skips second.skips;
   keeps = keep_both a b first.keeps second.keeps;
 }
+
+-- what is said behind commands that say nothing
+pub quiet_said : (quiet owed : List Command) → Says quiet [] → said (quiet ++ owed) ≡ said owed
+quiet_said quiet owed none = said_join quiet owed ∙ ap (λ l. l ++ said owed) none.is
 
 -- behind commands that say nothing
 says_behind : (quiet owed texts : List Command) → Says quiet [] → Says owed texts → Says (quiet ++ owed) texts
@@ -163,6 +166,36 @@ pub says_sent : (quiet : List Command) (side : Side) (text : List ℕ) → Says 
 says_sent quiet side text none =
     says_behind quiet (commands.Send side text ∷ []) (commands.Send side text ∷ []) none
     (record { is = refl; skips = λ waits rest replies goes. goes; keeps = λ more rest. refl })
+
+-- ---- a stray byte of a side that is parked: it is closed
+
+says_byte : (server : ℕ) (bytes : List ℕ) → Says (shut_by_byte server bytes) []
+says_byte server [] = says_none
+says_byte server (byte ∷ more) = record { is = refl; skips = λ waits rest replies goes. goes; keeps = λ more rest. refl }
+
+pub says_stray : (parked : Option Parked) (seen : Sight) → Says (shut_stray parked seen) []
+says_stray None seen = says_none
+says_stray (Some parked) seen = says_byte parked.server seen.server
+
+says_doing : (at : At) (flow : Flow) (doing : Doing) (seen : Sight) → Says (strays (busy at flow doing) seen) []
+says_doing at flow (request_body given most) seen = says_stray at.parked seen
+says_doing at flow (connection sent) seen = says_stray at.parked seen
+says_doing at flow (response_head server sent) seen = says_none
+says_doing at flow (response_body server sent most) seen = says_none
+says_doing at flow (coming_down server sent) seen = says_none
+says_doing at flow (upgraded server) seen = says_none
+says_doing at flow given_head seen = says_stray at.parked seen
+says_doing at flow given_body seen = says_stray at.parked seen
+
+pub says_strays : (stage : Stage) (seen : Sight) → Says (strays stage seen) []
+says_strays (idle at) seen = says_stray at.parked seen
+says_strays (busy at flow doing) seen = says_doing at flow doing seen
+says_strays (next at) seen = says_stray at.parked seen
+says_strays over seen = says_none
+
+-- a stage that owes nothing else while it waits says nothing
+pub says_waiting : (stage : Stage) (seen : Sight) → Says (strays stage seen ++ []) []
+says_waiting stage seen = says_both (strays stage seen) [] (says_strays stage seen) says_none
 
 -- ---- interim responses and the expectation
 
@@ -275,11 +308,8 @@ kept_by (Some response) message closed bytes =
 pub streams_none : (flow : Flow) (seen : Sight) → streams_in flow None seen ≡ false
 streams_none flow seen = kept_by flow.response flow.request seen.shut seen.server
 
-goes_none : (seen : Sight) → goes_up None seen ≡ false
+pub goes_none : (seen : Sight) → goes_up None seen ≡ false
 goes_none seen = kept_behind request_says (head_in (request_item seen.client)) _
-
-pub begins_none : (place : Place) (at : At) (flow : Flow) (seen : Sight) → begins_going place at flow None seen ≡ false
-begins_none place at flow seen = ap (λ b. b && is_unheard (parked_for place flow.request at.parked) seen) (goes_none seen)
 
 -- ---- what a reply that goes on is taken for
 

@@ -23,22 +23,25 @@ use Rattle.px_exchange.specs.declared.ending.Used.TheVariants.{NoServer}
 use Rattle.px_exchange.specs.declared.taken.Taken.{Taken}
 use Rattle.px_exchange.specs.declared.taken.Taken.TheVariants as taken
 use Rattle.px_exchange.specs.declared.terms.Terms.{Terms}
-use Rattle.px_exchange.specs.Endings.{closed_message, connection_goes_on, ends_by_fault, ends_early, finished, shut_unless, without_response}
+use Rattle.px_exchange.specs.Endings.{closed_message, connection_goes_on, ends_by_fault, ends_early, finished, shut_unless, unless_kept, without_response}
 use Rattle.px_exchange.specs.Finds.{is_relayed, look_answer, look_answer_head, look_returned, or_leaves}
 use Rattle.px_exchange.specs.Flows.{ask_of, filled, response_of, with_answer, with_returned}
 use Rattle.px_exchange.specs.Replies.{taken_at_response_body, taken_at_response_head}
 use Rattle.px_exchange.specs.Requests.{is_head}
 use Rattle.px_exchange.specs.Texts.{interim_commands, returned_text}
 use Rattle.px_chain.specs.Chain.{behind_flow, finish_by, sequence, turn_answer, turn_answer_head, turn_read_whole, turn_response, turn_returned, turn_taken_answer, turn_taken_whole}
-use Rattle.px_said.specs.ClosedForm.{answers_at, dial_answers, ended_at, is_whole, response_is_whole, said, said_answers, said_behind, said_final, said_headed, said_on, said_relayed, said_returned, whole_response}
+use Rattle.px_said.specs.ClosedForm.{Point, answers_at, dial_answers, ended_at, is_whole, next_point, response_is_whole, said, said_answers, said_behind, said_final, said_headed, said_on, said_relayed, said_returned, whole_response}
 use Rattle.px_chain.specs.Behind.{used_behind}
-use Rattle.px_chain.specs.Sights.{Sight, UsedBytes, answers_in, server_in, sight_of, used_with}
+use Rattle.px_chain.specs.Keeping.{keeps_side, parks}
+use Rattle.px_chain.specs.Sights.{Sight, UsedBytes, answers_in, server_in, sight_of, used_by_answers}
 use Rattle.px_chain.specs.Stages.{At, Stage, all_sent, side_of, unparked}
 use Rattle.px_chain.specs.Streams.{Since}
 use Rattle.px_said.proofs.ClosedFronts.{IsFront, IsSame, answers_grow, front_length, least_at, same_answers, same_taken}
 use Rattle.px_said.proofs.ClosedQuiet.{no_dial, said_join, says_finished, says_interim, takes_response_body, takes_response_head, allows_none}
-use Rattle.px_said.proofs.ClosedStages.{Answering, IsAt, Returning, further_behind, goes_further, standing, told}
-use Rattle.px_said.proofs.ClosedTurns.{Leads, asks_nothing, asks_same, ending_led, ends_ask, goes_on}
+use Rattle.px_said.proofs.ClosedParked.{all_there, parks_said}
+use Rattle.px_said.proofs.ClosedStages.{Answering, IsAt, Returning, further_behind, goes_further, items_behind, standing, told}
+use Rattle.px_said.proofs.ClosedLooks.{asks_nothing, asks_same, ends_ask}
+use Rattle.px_said.proofs.ClosedTurns.{Leads, ending_led, goes_on}
 
 begun_by : (item : Item ReadResponse) (head : ReadResponse) → head_in item ≡ Some head → is_begun item ≡ true
 begun_by item head is = ap (λ (o : Option ReadResponse). is_some o || is_decided item) is
@@ -58,24 +61,24 @@ module _ (terms : Terms) (events : List (Timed Event)) (all : List Command) (flo
       answers_in asked (sight_of (Some side) since opened used up prefix) ≡ answers_at others side opened used.server (is_head asked.method)
   answers_same asked side opened used since up prefix others is = same_answers (is_head asked.method) side opened used.server prefix others is
 
-  -- what is left behind a flow: of the flows that are to come
-  by_stays : (more : ℕ) (stays : Bool) (at : At) (used : UsedBytes) (after : Stage → ℕ) (from opened come : ℕ) (sent : List Command) (left : List Reply) →
-      all ≡ said sent ++ said_behind stays (standing (unparked at) opened used from (dial_answers left)) (Some come) (further_behind terms events all (suc more) used.client) →
-      let there = sequence (behind_flow stays (unparked at)) in
-      IsAt terms events all more there opened (record { client = used.client; server = after there }) come sent left
-  by_stays more true at used after from opened come sent left is = record {
+  -- what is left behind a flow, with its side parked or none: of the flows that are to come
+  by_stays : (more : ℕ) (stays : Bool) (kept : At) (used : ℕ) (served : Stage → ℕ) (opened come : ℕ) (sent : List Command) (left : List Reply) (further : ℕ → List Command) →
+      all ≡ said sent ++ said_behind stays (Some come) further → let there = sequence (behind_flow stays kept) in
+      let had : UsedBytes = record { client = used; server = served there } in
+      (stays ≡ true → further come ≡ further_behind terms events all (suc more) used (standing (record kept { flow = kept.flow + 1 }) opened had come (dial_answers left))) →
+      IsAt terms events all more there opened had come sent left
+  by_stays more true kept used served opened come sent left further is same = record {
     from = come;
     within = omega arith;
     waits = λ k low high. absurd (omega arith);
-    rest = is;
+    rest = is ∙ ap (λ l. said sent ++ l) (same refl);
   }
-  by_stays more false at used after from opened come sent left is = record { is_all = is ∙ append-nil (said sent) }
+  by_stays more false kept used served opened come sent left further is same = record { is_all = is ∙ append-nil (said sent) }
 
   -- and behind the last one nothing
-  by_last : (stays : Bool) (at : At) (used : UsedBytes) (from opened come : ℕ) (sent : List Command) (left : List Reply) →
-      all ≡ said sent ++ said_behind stays (standing at opened used from (dial_answers left)) (Some come) (further_behind terms events all 0 used.client) → all ≡ said sent
-  by_last true at used from opened come sent left is = is ∙ append-nil (said sent)
-  by_last false at used from opened come sent left is = is ∙ append-nil (said sent)
+  by_last : (stays : Bool) (sent : List Command) (come : ℕ) (further : ℕ → List Command) → further come ≡ [] → all ≡ said sent ++ said_behind stays (Some come) further → all ≡ said sent
+  by_last true sent come further none is = is ∙ (ap (λ l. said sent ++ l) none ∙ append-nil (said sent))
+  by_last false sent come further none is = is ∙ append-nil (said sent)
 
   module _ (sent : List Command) (moment : ℕ) (value : Reply) (waits : Bool) (rest : List Command) (replies : List Reply)
       (since : Since) (opened : ℕ) (used : UsedBytes) (up : ℕ) (prefix : List (Timed Event)) (is_front : IsFront prefix events) (ask : Command) (at : At) (flow : Flow) (side : ℕ) where
@@ -102,7 +105,7 @@ module _ (terms : Terms) (events : List (Timed Event)) (all : List Command) (flo
     -- what is said behind the response, where the request went to its server over so many events, and these dials are answered
     abbrev behind : ℕ → ℕ → List (Option Fault) → Response → List Command
     behind went from dials =
-        said_on events (standing (unparked at) opened used from dials) (record { server = side; opened = opened; used = used.server; went = went })
+        said_on terms.place events (standing (unparked at) opened used from dials) (record { server = side; opened = opened; used = used.server; went = went })
         (further_behind terms events all flows used.client) flow.request
 
     -- how many events its response has used
@@ -117,7 +120,7 @@ module _ (terms : Terms) (events : List (Timed Event)) (all : List Command) (flo
     abbrev leads_body : Stage → UsedBytes
     leads_body stage = record {
       client = used.client;
-      server = used_behind false (side_of stage) (used_with found_answers.final (used.server + found_answers.used));
+      server = used_behind false (side_of stage) (used_by_answers found_answers used.server);
     }
 
     -- ---- the head of the final response
@@ -188,84 +191,117 @@ module _ (terms : Terms) (events : List (Timed Event)) (all : List Command) (flo
     -- ---- the response's body
 
     module _ (s : Returning terms events all flows at flow side opened used come sent left) where
-      -- A response that switches protocols is the last thing that is said; behind another one it may go on.
-      finished_led : (switches : Bool) (whole : Flow) (response : Response) → (response.status == 101) ≡ switches → whole.request ≡ flow.request →
-          ended_there s.went ≡ Some come →
-          all ≡ said sent ++ commands.Send Client (returned_text flow.request response) ∷ behind s.went s.from (dial_answers replies) response →
-          Leads terms events all flows (finish_by switches at whole all_sent response side (server_in side seen) seen.closed) opened leads_body come sent []
-          (ask_of whole ResponseBody) waits rest value replies
-      finished_led true whole response switches request ends is goes =
-          let text : Request → Command = λ r. commands.Send Client (returned_text r response) in
-          let more : List Command = ask_of whole ResponseBody ∷ text whole.request ∷ [] in
-          let point = standing (unparked at) opened used s.from (dial_answers replies) in
-          let last : behind s.went s.from (dial_answers replies) response ≡ [] =
-          ap (λ b. said_behind (not b && connection_goes_on at.flow flow.request response) point
-          (ended_there s.went) (further_behind terms events all flows used.client)) switches in
-          goes_on flows
-          (record {
-            is_all = goes_further all sent more (text flow.request ∷ []) _ [] is (ap (λ r. text r ∷ []) request) (ap (λ l. text flow.request ∷ l) last) ∙ append-nil _;
-          })
-          refl goes.1
-      finished_led false whole response switches request ends is goes =
-          let text : Request → Command = λ r. commands.Send Client (returned_text r response) in
-          let stays = connection_goes_on at.flow whole.request response in
-          let closes = says_finished whole response (server_in side seen) NoServer stays seen.closed in
-          let more : List Command = ask_of whole ResponseBody ∷ (finished whole response (server_in side seen) ++ shut_unless stays NoServer seen.closed) in
-          let point = standing (unparked at) opened used s.from (dial_answers replies) in
-          let F = further_behind terms events all flows used.client in
-          let left_there : List Command = said_behind stays point (Some come) F in
-          let last : behind s.went s.from (dial_answers replies) response ≡ left_there =
-          ap (λ b. said_behind (not b && connection_goes_on at.flow flow.request response) point
-          (ended_there s.went) F) switches
-          ∙ (ap (λ (r : Request). said_behind (connection_goes_on at.flow r response) point
-          (ended_there s.went) F) (sym request)
-          ∙ ap (λ o. said_behind stays point o F) ends) in
-          let there : all ≡ said (sent ++ more) ++ left_there =
-          goes_further all sent more (text flow.request ∷ []) _ left_there is (closes.is ∙ ap (λ r. text r ∷ []) request) (ap (λ l. text flow.request ∷ l) last) in
-          let P : ℕ → Type 0 = λ n. all ≡ said (sent ++ more) ++ said_behind stays point (Some come) (further_behind terms events all n used.client) in
-          ending_led terms events all flows (finish_by false at whole all_sent response side (server_in side seen) seen.closed) opened leads_body come sent [] (ask_of whole ResponseBody)
-          waits rest replies _ refl closes
-          (λ none. by_last stays (unparked at) used s.from opened come (sent ++ more) replies (subst P none there))
-          (λ n is. by_stays n stays at used (λ stage. (leads_body stage).server) s.from opened come (sent ++ more) replies (subst P is there)) goes.1
+      -- where the next request stands behind this response, if the connection goes on
+      abbrev next_from : Response → ℕ → Point
+      next_from response ended =
+          next_point terms.place (standing (unparked at) opened used s.from (dial_answers replies)) (record { server = side; opened = opened; used = used.server; went = s.went })
+          flow.request all_answers ended
 
-      whole_led : (head : ReadResponse) (body : Body) (trailers : List (List ℕ × List ℕ)) (size : ℕ) → found_answers.final ≡ complete head body trailers size →
-          Leads terms events all flows (turn_returned at flow side all_sent (complete head body trailers size) seen answer) opened leads_body come sent []
-          (ask_of (with_returned flow body.content trailers seen.now) ResponseBody) waits rest value replies
-      whole_led head body trailers size is goes =
-          let whole = with_returned flow body.content trailers seen.now in
-          let served = server_in side seen in
-          let response = whole_response s.head body trailers in
-          let carried = answers_carried flow.request side opened used since up prefix is_front in
-          let final : all_answers.final ≡ complete head body trailers size = carried.final.stays (rw is refl) ∙ is in
-          let same : Some head ≡ Some s.head = sym (ap head_in final) ∙ s.final in
-          let heads : head ≡ s.head = cc in
-          let there : whole.response ≡ Some response = ap (λ o. filled o body.content trailers) s.response in
-          let takes = takes_response_body whole response value there goes.0 in
-          let one : turn_read_whole at whole side all_sent answer served seen.closed ≡ turn_taken_whole at whole side all_sent (taken_at_response_body response value) moment served seen.closed =
-          ap (λ o. turn_response o (λ r. taken_at_response_body r value) (λ t. turn_taken_whole at whole side all_sent t moment served seen.closed)) there in
-          let two : turn_taken_whole at whole side all_sent (taken_at_response_body response value) moment served seen.closed
-          ≡ finish_by (response.status == 101) at whole all_sent response side served seen.closed =
-          ap (λ t. turn_taken_whole at whole side all_sent t moment served seen.closed) takes in
-          let P : Turn Stage Command → Type 0 = λ t. Leads terms events all flows t opened leads_body come sent [] (ask_of whole ResponseBody) waits rest value replies in
-          let test = response_is_whole events side opened used.server (is_head flow.request.method) in
-          let here : test come ≡ true =
-          ap (λ (answers : Answers). is_whole answers.final)
-          (sym (answers_same flow.request side opened used since up prefix (take (length prefix) events) (same_taken prefix events is_front)))
-          ∙ ap is_whole is in
-          let ends = least_at test s.went come (length events) s.onward.within (front_length prefix events is_front) s.onward.waits here in
-          let rest_is : all ≡ said sent ++ commands.Send Client (returned_text flow.request response) ∷ behind s.went s.from (dial_answers replies) response =
-          s.rest ∙ (ap (λ d. said sent ++ said_returned flow.request all_answers.final (behind s.went s.from d)) (no_dial whole value replies goes.0)
-          ∙ ap (λ (i : Item ReadResponse). said sent ++ said_returned flow.request i (behind s.went s.from (dial_answers replies)))
-          (final ∙ ap (λ h. complete h body trailers size) heads)) in
-          subst P (sym (one ∙ two)) (finished_led (response.status == 101) whole response refl refl ends rest_is) goes
+      module _ (head : ReadResponse) (body : Body) (trailers : List (List ℕ × List ℕ)) (size : ℕ) (is_final : found_answers.final ≡ complete head body trailers size) where
+        -- the side may be kept
+        abbrev keeps : Bool
+        keeps = keeps_side flow.request seen head
+
+        -- the place behind it, where the connection goes on or not, and the request was this one
+        abbrev kept_at : Bool → Request → At
+        kept_at stays asked = parks (stays && keeps) terms.place at asked side
+
+        abbrev next_kept : Bool → Request → Point
+        next_kept stays asked =
+            let kept = kept_at stays asked in
+            let had : UsedBytes = record { client = used.client; server = (leads_body (sequence (behind_flow stays kept))).server } in
+            standing (record kept { flow = kept.flow + 1 }) opened had come (dial_answers replies)
+
+        -- there the next request stands
+        further_kept : (n : ℕ) (response : Response) (stays : Bool) (asked : Request) → stays ≡ true → asked ≡ flow.request → all_answers ≡ found_answers →
+            further_behind terms events all n used.client (next_from response come) ≡ further_behind terms events all n used.client (next_kept stays asked)
+        further_kept n response stays asked on request same =
+            let P : Bool → Request → Type 0 = λ b r.
+            further_behind terms events all n used.client (next_from response come) ≡ further_behind terms events all n used.client (next_kept b r) in
+            let B : Bool → Type 0 = λ b. P b asked in
+            subst B (sym on)
+            (subst (P true) (sym request)
+            (parks_said terms events since opened used up prefix is_front at s.from (dial_answers replies) flow.request side s.went (take n (items_behind terms events all used.client))
+            all_answers head body trailers size same is_final))
+
+        -- A response that switches protocols is the last thing that is said; behind another one it may go on.
+        finished_led : (switches : Bool) (whole : Flow) (response : Response) → (response.status == 101) ≡ switches → whole.request ≡ flow.request →
+            ended_there s.went ≡ Some come →
+            all ≡ said sent ++ commands.Send Client (returned_text flow.request response) ∷ behind s.went s.from (dial_answers replies) response →
+            Leads terms events all flows (finish_by switches terms.place at whole all_sent response keeps side (server_in side seen) seen.closed) opened leads_body come sent []
+            (ask_of whole ResponseBody) waits rest value replies
+        finished_led true whole response switches request ends is goes =
+            let text : Request → Command = λ r. commands.Send Client (returned_text r response) in
+            let more : List Command = ask_of whole ResponseBody ∷ text whole.request ∷ [] in
+            let F = further_behind terms events all flows used.client in
+            let last : behind s.went s.from (dial_answers replies) response ≡ [] =
+            ap (λ b. said_behind (not b && connection_goes_on at.flow flow.request response) (ended_there s.went) (λ ended. F (next_from response ended))) switches in
+            goes_on flows
+            (record {
+              is_all = goes_further all sent more (text flow.request ∷ []) _ [] is (ap (λ r. text r ∷ []) request) (ap (λ l. text flow.request ∷ l) last) ∙ append-nil _;
+            })
+            refl goes.1
+        finished_led false whole response switches request ends is goes =
+            let text : Request → Command = λ r. commands.Send Client (returned_text r response) in
+            let stays = connection_goes_on at.flow whole.request response in
+            let used_side = unless_kept (stays && keeps) (server_in side seen) in
+            let closes = says_finished whole response used_side NoServer stays seen.closed in
+            let more : List Command = ask_of whole ResponseBody ∷ (finished whole response used_side ++ shut_unless stays NoServer seen.closed) in
+            let F : ℕ → ℕ → List Command = λ n ended. further_behind terms events all n used.client (next_from response ended) in
+            let left_there : List Command = said_behind stays (Some come) (F flows) in
+            let last : behind s.went s.from (dial_answers replies) response ≡ left_there =
+            ap (λ b. said_behind (not b && connection_goes_on at.flow flow.request response) (ended_there s.went) (F flows)) switches
+            ∙ (ap (λ (r : Request). said_behind (connection_goes_on at.flow r response) (ended_there s.went) (F flows)) (sym request)
+            ∙ ap (λ o. said_behind stays o (F flows)) ends) in
+            let there : all ≡ said (sent ++ more) ++ left_there =
+            goes_further all sent more (text flow.request ∷ []) _ left_there is (closes.is ∙ ap (λ r. text r ∷ []) request) (ap (λ l. text flow.request ∷ l) last) in
+            let P : ℕ → Type 0 = λ n. all ≡ said (sent ++ more) ++ said_behind stays (Some come) (F n) in
+            let carried = answers_carried flow.request side opened used since up prefix is_front in
+            let same : all_answers ≡ found_answers = all_there found_answers all_answers head body trailers size carried is_final in
+            ending_led terms events all flows (finish_by false terms.place at whole all_sent response keeps side (server_in side seen) seen.closed) opened leads_body come sent [] (ask_of whole ResponseBody)
+            waits rest replies _ refl closes
+            (λ none. by_last stays (sent ++ more) come (F 0) refl (subst P none there))
+            (λ n is. by_stays n stays (parks (stays && keeps) terms.place at whole.request side) used.client (λ stage. (leads_body stage).server) opened come (sent ++ more) replies (F (suc n))
+            (subst P is there) (λ on. further_kept (suc n) response stays whole.request on request same)) goes.1
+
+        whole_led : Leads terms events all flows (turn_returned terms.place at flow side all_sent (complete head body trailers size) seen answer) opened leads_body come sent []
+            (ask_of (with_returned flow body.content trailers seen.now) ResponseBody) waits rest value replies
+        whole_led goes =
+            let whole = with_returned flow body.content trailers seen.now in
+            let served = server_in side seen in
+            let response = whole_response s.head body trailers in
+            let carried = answers_carried flow.request side opened used since up prefix is_front in
+            let final : all_answers.final ≡ complete head body trailers size = carried.final.stays (rw is_final refl) ∙ is_final in
+            let same : Some head ≡ Some s.head = sym (ap head_in final) ∙ s.final in
+            let heads : head ≡ s.head = cc in
+            let there : whole.response ≡ Some response = ap (λ o. filled o body.content trailers) s.response in
+            let takes = takes_response_body whole response value there goes.0 in
+            let one : turn_read_whole terms.place at whole side all_sent keeps answer served seen.closed
+            ≡ turn_taken_whole terms.place at whole side all_sent keeps (taken_at_response_body response value) moment served seen.closed =
+            ap (λ o. turn_response o (λ r. taken_at_response_body r value) (λ t. turn_taken_whole terms.place at whole side all_sent keeps t moment served seen.closed)) there in
+            let two : turn_taken_whole terms.place at whole side all_sent keeps (taken_at_response_body response value) moment served seen.closed
+            ≡ finish_by (response.status == 101) terms.place at whole all_sent response keeps side served seen.closed =
+            ap (λ t. turn_taken_whole terms.place at whole side all_sent keeps t moment served seen.closed) takes in
+            let P : Turn Stage Command → Type 0 = λ t. Leads terms events all flows t opened leads_body come sent [] (ask_of whole ResponseBody) waits rest value replies in
+            let test = response_is_whole events side opened used.server (is_head flow.request.method) in
+            let here : test come ≡ true =
+            ap (λ (answers : Answers). is_whole answers.final)
+            (sym (answers_same flow.request side opened used since up prefix (take (length prefix) events) (same_taken prefix events is_front)))
+            ∙ ap is_whole is_final in
+            let ends = least_at test s.went come (length events) s.onward.within (front_length prefix events is_front) s.onward.waits here in
+            let rest_is : all ≡ said sent ++ commands.Send Client (returned_text flow.request response) ∷ behind s.went s.from (dial_answers replies) response =
+            s.rest ∙ (ap (λ d. said sent ++ said_returned flow.request all_answers.final (behind s.went s.from d)) (no_dial whole value replies goes.0)
+            ∙ ap (λ (i : Item ReadResponse). said sent ++ said_returned flow.request i (behind s.went s.from (dial_answers replies)))
+            (final ∙ ap (λ h. complete h body trailers size) heads)) in
+            subst P (sym (one ∙ two)) (finished_led (response.status == 101) whole response refl refl ends rest_is) goes
 
       pub returned_led : (item : Item ReadResponse) → found_answers.final ≡ item →
           or_leaves seen.closed (early (without_response flow) seen (server_in side seen)) (look_returned flow item seen.now (server_in side seen) seen.closed) ≡ Asks ask →
-          Leads terms events all flows (turn_returned at flow side all_sent item seen answer) opened leads_body come sent [] ask waits rest value replies
+          Leads terms events all flows (turn_returned terms.place at flow side all_sent item seen answer) opened leads_body come sent [] ask waits rest value replies
       returned_led missing is asks = absurd (asks_nothing seen.closed _ ask asks)
       returned_led (part head body) is asks = absurd (asks_nothing seen.closed _ ask asks)
       returned_led (complete head body trailers size) is asks =
-          let P : Command → Type 0 = λ c. Leads terms events all flows (turn_returned at flow side all_sent (complete head body trailers size) seen answer) opened leads_body come sent [] c waits rest value replies in
+          let P : Command → Type 0 = λ c. Leads terms events all flows (turn_returned terms.place at flow side all_sent (complete head body trailers size) seen answer) opened leads_body come sent [] c waits rest value replies in
           subst P (asks_same _ ask asks) (whole_led head body trailers size is)
       returned_led (bad_head fault) is asks = absurd (asks_nothing seen.closed _ ask asks)
       returned_led (bad_body fault head body) is asks = absurd (ends_ask _ ask asks)

@@ -78,7 +78,7 @@ module _ (terms : Terms) (events : List (Timed Event)) (all : List Command) wher
     -- what is said behind its response, where the request went to its server over so many events
     abbrev pub behind_answer : At → ℕ → ℕ → UsedBytes → ℕ → ℕ → Request → List Reply → Response → List Command
     behind_answer at side opened used went from asked left =
-        said_on events (standing (unparked at) opened used from (dial_answers left)) (record { server = side; opened = opened; used = used.server; went = went })
+        said_on terms.place events (standing (unparked at) opened used from (dial_answers left)) (record { server = side; opened = opened; used = used.server; went = went })
         (further_behind flows used.client) asked
 
     -- between two requests: the next one is not whole over fewer
@@ -99,11 +99,11 @@ module _ (terms : Terms) (events : List (Timed Event)) (all : List Command) wher
       pub rest : all ≡ said sent
           ++ said_whole terms events (standing at opened used from (dial_answers left)) asked (request_item (drop used.client all_bytes)) (further_after flows used.client)
 
-    -- the connection to its server
+    -- the connection to its server, and nothing is parked any more
     pub record Connecting (at : At) (asked : Request) (opened : ℕ) (used : UsedBytes) (come : ℕ) (sent : List Command) (left : List Reply) : Type 0 where
       pub from : ℕ
       pub rest : all ≡ said sent
-          ++ said_by terms events (standing at opened used from (dial_answers left)) asked come None (further_behind flows used.client)
+          ++ said_by terms events (standing (unparked at) opened used from (dial_answers left)) asked come None (further_behind flows used.client)
 
     -- the request was sent on, over so many events, and its response is not whole over fewer
     pub record Onward (asked : Request) (side opened used went come : ℕ) : Type 0 where

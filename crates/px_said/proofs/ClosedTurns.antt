@@ -1,5 +1,5 @@
 -- Where a reply that goes on leads: before the request is sent on.
-use Rattle.std.proofs.Common.{◌≡◌, ℕ, zero, suc, ◌+◌, Bool, true, false, List, [], ◌∷◌, ◌++◌, length, drop, Option, Some, None, refl, ap, sym, ◌∙◌, subst, arith}
+use Rattle.std.proofs.Common.{◌≡◌, ℕ, zero, suc, ◌+◌, Bool, false, List, [], ◌∷◌, ◌++◌, length, drop, Option, Some, None, refl, ap, sym, ◌∙◌, subst, arith}
 use Rattle.std.specs.Prelude.{take}
 use Rattle.std.proofs.lemmas.List.{append-nil, drop-drop}
 use Rattle.px_message.specs.declared.fault.Fault.{Fault}
@@ -12,7 +12,7 @@ use Rattle.px_event.specs.declared.event.Event.{Event}
 use Rattle.px_event.specs.declared.reply.Reply.{Reply}
 use Rattle.px_event.specs.declared.reply.Reply.TheVariants as reply
 use Rattle.px_event.specs.declared.side.Side.TheVariants.{Client, Server}
-use Rattle.px_event.specs.Chain.{Timed, NotYet, Asks, Ends, Turn}
+use Rattle.px_event.specs.Chain.{Timed, Asks, Turn}
 use Rattle.px_read.specs.Items.{Body, Item, missing, part, complete, bad_head, bad_body, request_item}
 use Rattle.px_read.specs.Laws.{head_in}
 use Rattle.px_read.specs.declared.head.RequestHead.{RequestHead as ReadRequest}
@@ -36,29 +36,16 @@ use Rattle.px_exchange.specs.Texts.{meets_expectation, onward_text}
 use Rattle.px_chain.specs.Chain.{goes_on_by, parked_for, sequence, turn_body, turn_dial, turn_head, turn_judged, turn_taken_body, turn_taken_head}
 use Rattle.px_said.specs.ClosedForm.{GoesOn, request_items, behind_request, connected_at, dial_answers, fault_said, first_flows, flows_behind, is_whole, request_is_whole, said, said_answers, said_by, said_connected, said_from, said_of, said_on, said_whole}
 use Rattle.px_chain.specs.Behind.{used_behind, used_by_turn}
+use Rattle.px_chain.specs.Keeping.{unspoilt_at}
 use Rattle.px_chain.specs.Sights.{Sight, UsedBytes, request_in, server_parked, sight_of, used_with}
 use Rattle.px_chain.specs.Stages.{At, Parked, Stage, all_sent, busy, idle, request_body, side_of, side_parked, unparked}
 use Rattle.px_chain.specs.Streams.{Since, bytes_of}
 use Rattle.px_said.proofs.ClosedFronts.{IsFront, drop_on, front_length, least_at, same_bytes, same_taken, side_grows}
 use Rattle.px_said.proofs.ClosedItems.{after_on, items_after, opening_on}
-use Rattle.px_said.proofs.ClosedQuiet.{SaysLast, allows_up_none, goes_behind, no_dial, said_join, says_expectation, says_fault, says_last_behind, says_sent, says_server, takes_request_body, takes_request_head}
+use Rattle.px_said.proofs.ClosedLooks.{asks_nothing, asks_same, behind_these, ends_ask}
+use Rattle.px_said.proofs.ClosedQuiet.{Says, SaysLast, allows_up_none, goes_behind, no_dial, quiet_said, said_join, says_expectation, says_fault, says_last_behind, says_sent, says_server, takes_request_body, takes_request_head}
+use Rattle.px_said.proofs.ClosedParked.{by_bare, forgotten, goes_now}
 use Rattle.px_said.proofs.ClosedStages.{Begun, Between, Connecting, IsAt, all_bytes, further_after, further_behind, goes_further, items_behind, none_used, standing, told}
-
--- ---- nothing asked
-
-pub asks_nothing : (closed : Bool) (leaving : List Command) (ask : Command) → or_leaves closed leaving NotYet ≡ Asks ask → ⊥
-asks_nothing true leaving ask is = let no : Ends leaving ≡ Asks ask = is in cc
-asks_nothing false leaving ask is = let no : NotYet ≡ Asks ask = is in cc
-
-pub ends_ask : (owed : List Command) (ask : Command) → Ends owed ≡ Asks ask → ⊥
-ends_ask owed ask is = cc
-
-pub asks_same : (one ask : Command) → Asks one ≡ Asks ask → one ≡ ask
-asks_same one ask is = cc
-
--- what a reply brings, behind what was owed behind the ask
-abbrev pub behind_these : List Command → Turn Stage Command → Turn Stage Command
-behind_these parts turned = record turned { owed = parts ++ turned.owed }
 
 module _ (terms : Terms) (events : List (Timed Event)) (all : List Command) where
   -- Where it stands behind the reply, with so many flows behind that one, and the replies that are left go on; or the last of these flows
@@ -107,35 +94,34 @@ module _ (terms : Terms) (events : List (Timed Event)) (all : List Command) wher
   abbrev behind_used : UsedBytes → ℕ → Option ℕ → UsedBytes
   behind_used used size side = record { client = used.client + size; server = used_behind false side used.server }
 
-  -- a request that goes on: its server is dialled, or it goes to the parked side
-  side_led : (flows : ℕ) (side : Option ℕ) (at : At) (whole : Flow) (opened : ℕ) (used : UsedBytes) (size from : ℕ) (sent : List Command) (waits : Bool) (rest : List Command)
-      (replies : List Reply) (prefix : List (Timed Event)) → parked_for terms.place whole.request at.parked ≡ side →
+  -- a request that goes on, behind what its stage owes while it waits: its server is dialled, or it goes to the parked side
+  side_led : (flows : ℕ) (side : Option ℕ) (at : At) (whole : Flow) (opened : ℕ) (used : UsedBytes) (size from : ℕ) (sent so_far : List Command) (waits : Bool) (rest : List Command)
+      (replies : List Reply) (prefix : List (Timed Event)) → Says so_far [] → parked_for terms.place whole.request at.parked ≡ side →
       let ask = ask_of whole RequestBody in
       let turned = goes_on_by side terms.place at whole in
       all ≡ said sent
       ++ said_by terms events (behind_request (standing at opened used from (dial_answers replies)) size) whole.request (length prefix) side
       (further_behind terms events all flows (used.client + size)) →
       GoesOn waits (first_flows (suc flows) (turned.owed ++ rest)) replies →
-      Led flows turned opened (λ stage. behind_used used size (side_of stage)) (length prefix) sent [] ask waits rest replies
-  side_led flows None at whole opened used size from sent waits rest replies prefix to is goes =
+      Led flows turned opened (λ stage. behind_used used size (side_of stage)) (length prefix) sent so_far ask waits rest replies
+  side_led flows None at whole opened used size from sent so_far waits rest replies prefix quiet to is goes =
       let ask : Command = ask_of whole RequestBody in
-      let same = none_used (side_parked at.parked) used.server in
       goes_on flows
       (record {
         from = from;
-        rest = goes_further all sent (ask ∷ []) [] _ _ is refl
-            (ap (λ n. said_by terms events (record (standing at opened used from (dial_answers replies)) { bytes = used.client + size; used = n }) whole.request (length prefix) None
-            (further_behind terms events all flows (used.client + size))) (sym same));
+        rest = goes_further all sent (so_far ++ ask ∷ []) [] _ _ is (quiet_said so_far (ask ∷ []) quiet)
+            (by_bare terms events (behind_request (standing at opened used from (dial_answers replies)) size) whole.request (length prefix)
+            (further_behind terms events all flows (used.client + size)));
       })
       refl goes
-  side_led flows (Some side) at whole opened used size from sent waits rest replies prefix to is goes =
+  side_led flows (Some side) at whole opened used size from sent so_far waits rest replies prefix quiet to is goes =
       let ask : Command = ask_of whole RequestBody in
       let text : Command = commands.Send (Server side) (onward_text (form_at terms.place) whole.request) in
       let same = parked_used terms.place whole.request at.parked used.server side to in
       let left : ℕ → List Command = λ n.
       said_answers whole.request (told terms events all side opened n whole.request)
-      (said_on events (standing (unparked at) opened (behind_used used size None) from (dial_answers replies)) (record { server = side; opened = opened; used = n; went = length prefix })
-      (further_behind terms events all flows (used.client + size)) whole.request) in
+      (said_on terms.place events (standing (unparked at) opened (behind_used used size None) from (dial_answers replies))
+      (record { server = side; opened = opened; used = n; went = length prefix }) (further_behind terms events all flows (used.client + size)) whole.request) in
       goes_on flows
       (record {
         went = length prefix;
@@ -144,7 +130,7 @@ module _ (terms : Terms) (events : List (Timed Event)) (all : List Command) wher
           waits = λ k low high. absurd (omega arith);
         };
         from = from;
-        rest = goes_further all sent (ask ∷ text ∷ []) (text ∷ []) _ _ is refl (ap (λ n. text ∷ left n) same);
+        rest = goes_further all sent (so_far ++ ask ∷ text ∷ []) (text ∷ []) _ _ is (quiet_said so_far (ask ∷ text ∷ []) quiet) (ap (λ n. text ∷ left n) same);
       })
       refl goes
 
@@ -158,7 +144,8 @@ module _ (terms : Terms) (events : List (Timed Event)) (all : List Command) wher
       subst P (sym (ap (drop used) grows.grown ∙ on.1)) (request_carries chunk_laws (drop used bytes) on.0)
 
   module _ (flows : ℕ) (sent : List Command) (moment : ℕ) (value : Reply) (waits : Bool) (rest : List Command) (replies : List Reply)
-      (since : Since) (opened : ℕ) (used : UsedBytes) (up : ℕ) (prefix : List (Timed Event)) (is_front : IsFront prefix events) (ask : Command) (leaving : List Command) (at : At) where
+      (since : Since) (opened : ℕ) (used : UsedBytes) (up : ℕ) (prefix : List (Timed Event)) (is_front : IsFront prefix events) (ask : Command) (leaving so_far : List Command)
+      (quiet : Says so_far []) (at : At) where
     abbrev answer : Timed Reply
     answer = record { moment = moment; value = value }
 
@@ -170,8 +157,12 @@ module _ (terms : Terms) (events : List (Timed Event)) (all : List Command) wher
     abbrev seen : Sight
     seen = sight_of (side_parked at.parked) since opened used up prefix
 
+    -- and without one of which something was heard
+    abbrev there : At
+    there = unspoilt_at at seen
+
     abbrev parked : Used
-    parked = server_parked at.parked seen
+    parked = server_parked there.parked seen
 
     -- the replies that are left before this one, and behind it
     abbrev left : List Reply
@@ -190,17 +181,20 @@ module _ (terms : Terms) (events : List (Timed Event)) (all : List Command) wher
 
     accepted_led : (head : ReadRequest) (message : Request) → Between terms events all flows at opened used come sent left →
         head_in (request_item (drop used.client (all_bytes terms events all))) ≡ Some head → judged terms.place head ≡ Accepted message →
-        Leads flows (turn_judged terms at head (Accepted message) seen answer) opened leads_on come sent [] (ask_of (flow_of terms at.flow message seen.now) RequestHead) waits rest value replies
-    accepted_led head message b there accepted goes =
+        Leads flows (turn_judged terms there head (Accepted message) seen answer) opened leads_on come sent so_far (ask_of (flow_of terms at.flow message seen.now) RequestHead) waits rest value replies
+    accepted_led head message b is_head_there accepted goes =
         let flow = flow_of terms at.flow message seen.now in
         let asked = ask_of flow RequestHead in
         let bytes = drop used.client (all_bytes terms events all) in
+        let texts = meets_expectation (expects head) in
         let meets = says_expectation (expects head) in
-        let same = none_used (side_parked at.parked) used.server in
-        let whole : ℕ → List (Option Fault) → List Command = λ n d.
-        said_whole terms events (record (standing at opened used b.from d) { used = n }) message (request_item bytes) (further_after terms events all flows used.client) in
-        let opening = opening_on terms events (standing at opened used b.from (dial_answers left)) flows bytes head message there accepted in
-        let P : Option ℕ → Taken Request → Type 0 = λ m t. Leads flows (turn_taken_head at flow (expects head) m t moment seen) opened leads_on come sent [] asked waits rest value replies in
+        let same = none_used (side_parked there.parked) used.server in
+        let F = further_after terms events all flows used.client in
+        let whole : At → List (Option Fault) → List Command = λ a d. said_whole terms events (standing a opened used b.from d) message (request_item bytes) F in
+        let whole_used : ℕ → List Command = λ n.
+        said_whole terms events (record (standing there opened used b.from (dial_answers replies)) { used = n }) message (request_item bytes) F in
+        let opening = opening_on terms events (standing at opened used b.from (dial_answers left)) flows bytes head message is_head_there accepted in
+        let P : Option ℕ → Taken Request → Type 0 = λ m t. Leads flows (turn_taken_head there flow (expects head) m t moment seen) opened leads_on come sent so_far asked waits rest value replies in
         let led : P None (taken.GoesOn message) = λ on.
         goes_on flows
         (record {
@@ -208,31 +202,32 @@ module _ (terms : Terms) (events : List (Timed Event)) (all : List Command) wher
           within = b.within;
           waits = b.waits;
           head = head;
-          there = there;
+          there = is_head_there;
           accepted = accepted;
-          rest = goes_further all sent (asked ∷ meets_expectation (expects head)) (meets_expectation (expects head)) _
-              (whole (used_behind false (side_parked at.parked) (used_behind false (side_parked at.parked) used.server)) (dial_answers replies)) b.rest meets.is
-              (opening ∙ (ap (λ d. meets_expectation (expects head) ++ whole (used_behind false (side_parked at.parked) used.server) d) (no_dial flow value replies on.0)
-              ∙ ap (λ n. meets_expectation (expects head) ++ whole n (dial_answers replies)) (sym same)));
+          rest = goes_further all sent (so_far ++ asked ∷ texts) texts _ (whole_used (used_behind false (side_parked there.parked) (used_behind false (side_parked there.parked) used.server))) b.rest
+              (quiet_said so_far (asked ∷ texts) quiet ∙ meets.is)
+              (opening ∙ (ap (λ d. texts ++ whole at d) (no_dial flow value replies on.0)
+              ∙ (ap (λ l. texts ++ l) (forgotten terms events since opened used up prefix is_front at b.from (dial_answers replies) message (request_item bytes) F b.waits)
+              ∙ ap (λ n. texts ++ whole_used n) (sym same))));
         })
         (meets.keeps flows rest)
-        (goes_behind (meets_expectation (expects head)) (meets_expectation (expects head)) meets waits flows rest replies on.1) in
+        (goes_behind texts texts meets waits flows rest replies on.1) in
         let taken_so : P None (taken_at_request_head message value) = subst (λ t. P None t) (sym (takes_request_head flow value goes.0)) led in
         subst (λ m. P m (taken_at_request_head message value)) (sym (allows_up_none terms.streams flow value goes.0)) taken_so goes
 
     judged_led : (head : ReadRequest) (made : Judged) → judged terms.place head ≡ made → Between terms events all flows at opened used come sent left →
         head_in (request_item (drop used.client (all_bytes terms events all))) ≡ Some head →
         or_leaves seen.closed leaving (look_judged terms at.flow head made seen.now parked seen.closed) ≡ Asks ask →
-        Leads flows (turn_judged terms at head made seen answer) opened leads_on come sent [] ask waits rest value replies
-    judged_led head (Refused fault) made b there asks = absurd (ends_ask _ ask asks)
-    judged_led head (Connects address) made b there asks = absurd (ends_ask _ ask asks)
-    judged_led head (Accepted message) made b there asks =
-        let P : Command → Type 0 = λ c. Leads flows (turn_judged terms at head (Accepted message) seen answer) opened leads_on come sent [] c waits rest value replies in
-        subst P (asks_same _ ask asks) (accepted_led head message b there made)
+        Leads flows (turn_judged terms there head made seen answer) opened leads_on come sent so_far ask waits rest value replies
+    judged_led head (Refused fault) made b is asks = absurd (ends_ask _ ask asks)
+    judged_led head (Connects address) made b is asks = absurd (ends_ask _ ask asks)
+    judged_led head (Accepted message) made b is asks =
+        let P : Command → Type 0 = λ c. Leads flows (turn_judged terms there head (Accepted message) seen answer) opened leads_on come sent so_far c waits rest value replies in
+        subst P (asks_same _ ask asks) (accepted_led head message b is made)
 
     pub idle_led : (item : Item ReadRequest) → request_in seen ≡ item → Between terms events all flows at opened used come sent left →
         or_leaves seen.closed leaving (look_head terms at.flow item seen.now parked seen.closed) ≡ Asks ask →
-        Leads flows (turn_head terms at item seen answer) opened leads_on come sent [] ask waits rest value replies
+        Leads flows (turn_head terms there item seen answer) opened leads_on come sent so_far ask waits rest value replies
     idle_led missing is b asks = absurd (asks_nothing seen.closed leaving ask asks)
     idle_led (part head body) is b asks =
         judged_led head (judged terms.place head) refl b ((client_carried used.client prefix is_front).head head (ap head_in is)) asks
@@ -253,7 +248,7 @@ module _ (terms : Terms) (events : List (Timed Event)) (all : List Command) wher
 
     whole_there : (flow : Flow) (head : ReadRequest) (body : Body) (trailers : List (List ℕ × List ℕ)) (size : ℕ) →
         request_in seen ≡ complete head body trailers size → Begun terms events all flows at flow.request opened used come sent left →
-        Leads flows (turn_body terms.place at flow (complete head body trailers size) seen answer) opened (behind_item (complete head body trailers size)) come sent []
+        Leads flows (turn_body terms.place there flow (complete head body trailers size) seen answer) opened (behind_item (complete head body trailers size)) come sent so_far
         (ask_of (with_body flow body.content trailers seen.now) RequestBody) waits rest value replies
     whole_there flow head body trailers size is b goes =
         let whole = with_body flow body.content trailers seen.now in
@@ -279,30 +274,32 @@ module _ (terms : Terms) (events : List (Timed Event)) (all : List Command) wher
         ∙ (ap (λ o. said_connected terms events (behind_request point size) whole.request o F) connected
         ∙ ap (λ l. said_connected terms events (behind_request point size) whole.request (Some come) (λ next. said_from terms events next (take flows l))) after)) in
         let P : Taken Request → Type 0 = λ t.
-        Leads flows (turn_taken_body terms.place at whole t moment seen) opened (behind_item (complete head body trailers size)) come sent [] asked waits rest value replies in
+        Leads flows (turn_taken_body terms.place there whole t moment seen) opened (behind_item (complete head body trailers size)) come sent so_far asked waits rest value replies in
         let led : P (taken.GoesOn whole.request) = λ on_it.
-        side_led flows (parked_for terms.place whole.request at.parked) at whole opened used size b.from sent waits rest replies prefix refl
-        (b.rest ∙ ap (λ l. said sent ++ l) (on (no_dial whole value replies on_it.0))) on_it.1 in
+        side_led flows (parked_for terms.place whole.request there.parked) there whole opened used size b.from sent so_far waits rest replies prefix quiet refl
+        (b.rest ∙ ap (λ l. said sent ++ l)
+        (on (no_dial whole value replies on_it.0)
+        ∙ goes_now terms events since opened used up prefix is_front at b.from (dial_answers replies) size whole.request (further_behind terms events all flows (used.client + size)))) on_it.1 in
         subst P (sym (takes_request_body whole value goes.0)) led goes
 
     whole_led : (flow : Flow) (head : ReadRequest) (body : Body) (trailers : List (List ℕ × List ℕ)) (size : ℕ) →
         request_in seen ≡ complete head body trailers size → Begun terms events all flows at flow.request opened used come sent left →
-        Leads flows (turn_body terms.place at flow (complete head body trailers size) seen answer) opened (behind_body flow) come sent []
+        Leads flows (turn_body terms.place there flow (complete head body trailers size) seen answer) opened (behind_body flow) come sent so_far
         (ask_of (with_body flow body.content trailers seen.now) RequestBody) waits rest value replies
     whole_led flow head body trailers size is b =
         let P : Item ReadRequest → Type 0 = λ i.
-        Leads flows (turn_body terms.place at flow (complete head body trailers size) seen answer) opened (behind_item i) come sent []
+        Leads flows (turn_body terms.place there flow (complete head body trailers size) seen answer) opened (behind_item i) come sent so_far
         (ask_of (with_body flow body.content trailers seen.now) RequestBody) waits rest value replies in
         subst P (sym is) (whole_there flow head body trailers size is b)
 
     pub body_led : (flow : Flow) (item : Item ReadRequest) → request_in seen ≡ item → Begun terms events all flows at flow.request opened used come sent left →
         or_leaves seen.closed leaving (look_body flow item seen.now parked seen.closed) ≡ Asks ask →
-        Leads flows (turn_body terms.place at flow item seen answer) opened (behind_body flow) come sent [] ask waits rest value replies
+        Leads flows (turn_body terms.place there flow item seen answer) opened (behind_body flow) come sent so_far ask waits rest value replies
     body_led flow missing is b asks = absurd (asks_nothing seen.closed leaving ask asks)
     body_led flow (part head body) is b asks = absurd (asks_nothing seen.closed leaving ask asks)
     body_led flow (complete head body trailers size) is b asks =
         let P : Command → Type 0 = λ c.
-        Leads flows (turn_body terms.place at flow (complete head body trailers size) seen answer) opened (behind_body flow) come sent [] c waits rest value replies in
+        Leads flows (turn_body terms.place there flow (complete head body trailers size) seen answer) opened (behind_body flow) come sent so_far c waits rest value replies in
         subst P (asks_same _ ask asks) (whole_led flow head body trailers size is b)
     body_led flow (bad_head fault) is b asks = absurd (asks_nothing seen.closed leaving ask asks)
     body_led flow (bad_body fault head body) is b asks = absurd (ends_ask _ ask asks)
@@ -311,14 +308,14 @@ module _ (terms : Terms) (events : List (Timed Event)) (all : List Command) wher
 
     -- what the answer of a dial brings, behind the close of the parked side
     abbrev dial_turned : Flow → Reply → Turn Stage Command
-    dial_turned flow answered = behind_these (shut_server parked) (turn_dial terms.place at flow all_sent (record { moment = moment; value = answered }) seen.closed)
+    dial_turned flow answered = behind_these (shut_server parked) (turn_dial terms.place there flow all_sent (record { moment = moment; value = answered }) seen.closed)
 
     -- of the new side no byte was used
     abbrev behind_dial : Stage → UsedBytes
     behind_dial stage = record { client = used.client; server = 0 }
 
     answered_led : (flow : Flow) (answered : Reply) → Connecting terms events all flows at flow.request opened used come sent (answered ∷ replies) →
-        Leads flows (dial_turned flow answered) come behind_dial come sent [] (commands.Dial at.dials (dialled_for terms.place flow.request) None) waits rest answered replies
+        Leads flows (dial_turned flow answered) come behind_dial come sent so_far (commands.Dial at.dials (dialled_for terms.place flow.request) None) waits rest answered replies
     answered_led flow reply.Dialled c goes =
         let dial = commands.Dial at.dials (dialled_for terms.place flow.request) None in
         let text = onward_text (form_at terms.place) flow.request in
@@ -333,7 +330,7 @@ module _ (terms : Terms) (events : List (Timed Event)) (all : List Command) wher
             waits = λ k low high. absurd (omega arith);
           };
           from = c.from;
-          rest = goes_further all sent (dial ∷ owed) (dial ∷ send ∷ []) _ _ c.rest (ap (λ l. dial ∷ l) sends.is) refl;
+          rest = goes_further all sent (so_far ++ dial ∷ owed) (dial ∷ send ∷ []) _ _ c.rest (quiet_said so_far (dial ∷ owed) quiet ∙ ap (λ l. dial ∷ l) sends.is) refl;
         })
         (sends.keeps flows rest) (goes_behind owed (send ∷ []) sends waits flows rest replies goes.1)
     answered_led flow (reply.Refused fault) c goes =
@@ -342,10 +339,10 @@ module _ (terms : Terms) (events : List (Timed Event)) (all : List Command) wher
         (says_fault flow fault moment NoServer seen.closed) in
         let dial = commands.Dial at.dials (dialled_for terms.place flow.request) None in
         let owed = shut_server parked ++ ends_by_fault flow fault moment NoServer seen.closed in
-        let on : all ≡ said (sent ++ dial ∷ owed) ++ [] =
-        goes_further all sent (dial ∷ owed) (dial ∷ texts) _ [] c.rest (ap (λ l. dial ∷ l) ends.is) refl in
+        let on : all ≡ said (sent ++ (so_far ++ dial ∷ owed)) ++ [] =
+        goes_further all sent (so_far ++ dial ∷ owed) (dial ∷ texts) _ [] c.rest (quiet_said so_far (dial ∷ owed) quiet ∙ ap (λ l. dial ∷ l) ends.is) refl in
         let is_all = on ∙ append-nil _ in
-        ending_led flows (dial_turned flow (reply.Refused fault)) come behind_dial come sent [] dial waits rest replies texts refl ends
+        ending_led flows (dial_turned flow (reply.Refused fault)) come behind_dial come sent so_far dial waits rest replies texts refl ends
         (λ none. is_all) (λ more is. record { is_all = is_all }) goes.1
     answered_led flow (reply.Go given streamed) c goes = absurd goes.0
     answered_led flow (reply.Respond response) c goes = absurd goes.0
@@ -354,7 +351,7 @@ module _ (terms : Terms) (events : List (Timed Event)) (all : List Command) wher
 
     pub dial_led : (flow : Flow) → Connecting terms events all flows at flow.request opened used come sent left →
         or_leaves seen.closed leaving (Asks (commands.Dial at.dials (dialled_for terms.place flow.request) None)) ≡ Asks ask →
-        Leads flows (dial_turned flow value) come behind_dial come sent [] ask waits rest value replies
+        Leads flows (dial_turned flow value) come behind_dial come sent so_far ask waits rest value replies
     dial_led flow c asks =
-        let P : Command → Type 0 = λ d. Leads flows (dial_turned flow value) come behind_dial come sent [] d waits rest value replies in
+        let P : Command → Type 0 = λ d. Leads flows (dial_turned flow value) come behind_dial come sent so_far d waits rest value replies in
         subst P (asks_same _ ask asks) (answered_led flow value c)

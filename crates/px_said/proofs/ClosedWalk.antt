@@ -10,11 +10,11 @@ use Rattle.px_event.specs.Chain.{Stamp, Stamped, Timed, Look, NotYet, Asks, Ends
 use Rattle.px_event.specs.Laws.{seen_values, waiting_values}
 use Rattle.px_event.proofs.Growth.{prefix_behind}
 use Rattle.px_event.proofs.Reach.{reach_all, reach_values}
-use Rattle.px_event.proofs.Walk.{walk_on}
 use Rattle.px_exchange.specs.EndOrder.{FoundInOrder, OnlyCloses}
 use Rattle.px_exchange.specs.declared.terms.Terms.{Terms}
 use Rattle.px_chain.specs.Behind.{dials_at, used_by_turn}
-use Rattle.px_chain.specs.Chain.{behind, come_down, end_up, goes_to, http_chain, leaving, look, opened_by, pass, pass_going, pass_kept, sequence, sight_ended, so_far, turn, used_by_coming, used_by_end, used_by_kept, used_by_pass}
+use Rattle.px_chain.specs.Chain.{behind, come_down, end_up, goes_to, http_chain, leaving, look, opened_by, pass, pass_going, pass_kept, sequence, sight_ended, so_far, turn, used_by_coming, used_by_end, used_by_kept, used_by_pass, waits_at}
+use Rattle.px_chain.specs.Keeping.{strays, unspoilt, unspoilt_at}
 use Rattle.px_said.specs.ClosedForm.{GoesOn, first_flows, flows_behind, said, said_of_flows}
 use Rattle.px_chain.specs.Sights.{Sight, Standing, UsedBytes, answers_in, request_in, sight_of, sight_over}
 use Rattle.px_chain.specs.Stages.{At, Stage, all_sent, busy, connection, given_body, given_head, going_up, idle, next, over, request_body, response_body, response_head, side_of, side_parked, upgraded, coming_down}
@@ -22,97 +22,56 @@ use Rattle.px_chain.specs.Streams.{Since, client_closed}
 use Rattle.px_said.specs.Walks.{Walk, answered, due_from, heard, point_at}
 use Rattle.px_said.proofs.ClosedExact.{stage_more, stage_stood}
 use Rattle.px_said.proofs.ClosedFronts.{IsFront, IsSame, front_of, same_of, still_open}
-use Rattle.px_said.proofs.ClosedLooks.{IsLast}
-use Rattle.px_said.proofs.ClosedQuiet.{Keeps, Skips, closes_said, end_said, said_join, begins_none, says_interim, streams_none}
+use Rattle.px_said.proofs.ClosedLooks.{IsLast, behind_these, ends_ask}
+use Rattle.px_said.proofs.ClosedQuiet.{Keeps, Skips, closes_said, end_said, goes_none, keep_both, said_join, says_interim, says_strays, says_waiting, skip_both, streams_none}
 use Rattle.px_said.proofs.ClosedReturns.{answer_led, returned_led}
 use Rattle.px_said.proofs.ClosedStages.{IsAt}
-use Rattle.px_said.proofs.ClosedTurns.{Leads, Led, behind_these, body_led, dial_led, ends_ask, goes_on, has_ended, idle_led}
+use Rattle.px_said.proofs.ClosedTurns.{Leads, Led, body_led, dial_led, goes_on, has_ended, idle_led}
+use Rattle.px_said.proofs.WalkLemmas.{walk_behind}
 use Rattle.px_chain.proofs.EndLemmas.{behind_closes, looks_in_order}
 use Rattle.px_chain.specs.Coming.{came_in, streaming}
 use Rattle.px_chain.specs.Going.{sends_going}
 use Rattle.px_chain.proofs.ChainLaws.{behind_turn}
 
--- ---- what was owed before is owed in front
-
-module _ {S E R A : Type 0} (chain : Chain S E R A) (a : List A) where
-  abbrev pub with_these : Reached S E A → Reached S E A
-  with_these here = record here { before = a ++ here.before }
-
-  pub reach_by_behind : (l : Look A) (further here other there : Reached S E A) → further ≡ with_these other → here ≡ with_these there →
-      reach_by l further here ≡ with_these (reach_by l other there)
-  reach_by_behind NotYet further here other there on at = on
-  reach_by_behind (Asks ask) further here other there on at = at
-  reach_by_behind (Ends owed) further here other there on at = at
-
-  pub reach_behind : (last : Stamp) (before : List A) (s : S) (f : List (Timed E)) (es : List (Stamped E)) →
-      reach chain last (a ++ before) s f es ≡ with_these (reach chain last before s f es)
-  reach_behind last before s f [] =
-      let on = chain.pass s f in
-      ap (λ b. record { before = b; stage = on.stage; prefix = f; rest = [] }) (append_assoc a before on.owed)
-  reach_behind last before s f (e ∷ es) =
-      let on = chain.pass s f in
-      let joined = append_assoc a before on.owed in
-      reach_by_behind (chain.look on.stage f) _ _ _ _
-      (ap (λ b. reach chain last b on.stage (f ++ worked_off last e ∷ []) es) joined
-      ∙ reach_behind last (before ++ on.owed) on.stage (f ++ worked_off last e ∷ []) es)
-      (ap (λ b. record { before = b; stage = on.stage; prefix = f; rest = e ∷ es }) joined)
-
-  pub walk_by_behind : (l : Look A) (onward other : A → Stop S E R A) (stop there : Stop S E R A) →
-      ((ask : A) → owed_at chain (onward ask) ≡ a ++ owed_at chain (other ask)) → owed_at chain stop ≡ a ++ owed_at chain there →
-      owed_at chain (walk_by l onward stop) ≡ a ++ owed_at chain (walk_by l other there)
-  walk_by_behind NotYet onward other stop there on at = at
-  walk_by_behind (Asks ask) onward other stop there on at = on ask
-  walk_by_behind (Ends owed) onward other stop there on at = at
-
-  pub walk_behind : (rs : List (Stamped R)) (last : Stamp) (before : List A) (s : S) (f : List (Timed E)) (es : List (Stamped E)) →
-      owed_at chain (walk chain rs last (a ++ before) s f es) ≡ a ++ owed_at chain (walk chain rs last before s f es)
-  walk_behind [] last before s f es =
-      let here = reach chain last before s f es in
-      ap (λ h. owed_at chain (stop_at last h [])) (reach_behind last before s f es) ∙ append_assoc a here.before _
-  walk_behind (r ∷ rs) last before s f es =
-      let here = reach chain last before s f es in
-      let on = chain.turn here.stage here.prefix (at_its_step r) in
-      ap (λ h. owed_at chain (walk_on chain (r ∷ rs) last h)) (reach_behind last before s f es)
-      ∙ walk_by_behind (chain.look here.stage here.prefix) _ _ _ _
-      (λ ask.
-      let more = chain.so_far here.stage here.prefix ++ ask ∷ (chain.behind here.stage here.prefix ++ on.owed) in
-      ap (λ b. owed_at chain (walk chain rs r.stamp b on.stage here.prefix here.rest)) (append_assoc a here.before more)
-      ∙ walk_behind rs r.stamp (here.before ++ more) on.stage here.prefix here.rest)
-      (append_assoc a here.before _)
-
 -- ---- a stage of the conversation
 
+waits_skips : (terms : Terms) (stage : Stage) (seen : Sight) → Skips (waits_at terms stage seen)
+waits_skips terms (idle at) seen may_wait rest replies goes = goes
+waits_skips terms (busy at flow (request_body given most)) seen may_wait rest replies goes = goes
+waits_skips terms (busy at flow (connection how)) seen may_wait rest replies goes = goes
+waits_skips terms (busy at flow (response_head side all_sent)) seen may_wait rest replies goes = (says_interim flow.request (answers_in flow.request seen).interim).skips may_wait rest replies goes
+waits_skips terms (busy at flow (response_head side going_up)) seen may_wait rest replies goes = (says_interim flow.request (answers_in flow.request seen).interim).skips may_wait rest replies goes
+waits_skips terms (busy at flow (response_body side all_sent most)) seen may_wait rest replies goes = goes
+waits_skips terms (busy at flow (response_body side going_up most)) seen may_wait rest replies goes = goes
+waits_skips terms (busy at flow (coming_down side all_sent)) seen may_wait rest replies goes = goes
+waits_skips terms (busy at flow (coming_down side going_up)) seen may_wait rest replies goes = goes
+waits_skips terms (busy at flow (upgraded side)) seen may_wait rest replies goes = goes
+waits_skips terms (busy at flow given_head) seen may_wait rest replies goes = goes
+waits_skips terms (busy at flow given_body) seen may_wait rest replies goes = goes
+waits_skips terms (next at) seen may_wait rest replies goes = goes
+waits_skips terms over seen may_wait rest replies goes = goes
+
 so_far_skips : (terms : Terms) (stage : Stage) (seen : Sight) → Skips (so_far terms stage seen)
-so_far_skips terms (idle at) seen may_wait rest replies goes = goes
-so_far_skips terms (busy at flow (request_body given most)) seen may_wait rest replies goes = goes
-so_far_skips terms (busy at flow (connection how)) seen may_wait rest replies goes = goes
-so_far_skips terms (busy at flow (response_head side all_sent)) seen may_wait rest replies goes = (says_interim flow.request (answers_in flow.request seen).interim).skips may_wait rest replies goes
-so_far_skips terms (busy at flow (response_head side going_up)) seen may_wait rest replies goes = (says_interim flow.request (answers_in flow.request seen).interim).skips may_wait rest replies goes
-so_far_skips terms (busy at flow (response_body side all_sent most)) seen may_wait rest replies goes = goes
-so_far_skips terms (busy at flow (response_body side going_up most)) seen may_wait rest replies goes = goes
-so_far_skips terms (busy at flow (coming_down side all_sent)) seen may_wait rest replies goes = goes
-so_far_skips terms (busy at flow (coming_down side going_up)) seen may_wait rest replies goes = goes
-so_far_skips terms (busy at flow (upgraded side)) seen may_wait rest replies goes = goes
-so_far_skips terms (busy at flow given_head) seen may_wait rest replies goes = goes
-so_far_skips terms (busy at flow given_body) seen may_wait rest replies goes = goes
-so_far_skips terms (next at) seen may_wait rest replies goes = goes
-so_far_skips terms over seen may_wait rest replies goes = goes
+so_far_skips terms stage seen = skip_both (strays stage seen) (waits_at terms stage seen) (says_strays stage seen).skips (waits_skips terms stage seen)
+
+waits_keeps : (terms : Terms) (stage : Stage) (seen : Sight) → Keeps (waits_at terms stage seen)
+waits_keeps terms (idle at) seen more rest = refl
+waits_keeps terms (busy at flow (request_body given most)) seen more rest = refl
+waits_keeps terms (busy at flow (connection how)) seen more rest = refl
+waits_keeps terms (busy at flow (response_head side all_sent)) seen more rest = (says_interim flow.request (answers_in flow.request seen).interim).keeps more rest
+waits_keeps terms (busy at flow (response_head side going_up)) seen more rest = ap (λ l. sends_going terms.place flow side seen ++ l) ((says_interim flow.request (answers_in flow.request seen).interim).keeps more rest)
+waits_keeps terms (busy at flow (response_body side all_sent most)) seen more rest = refl
+waits_keeps terms (busy at flow (response_body side going_up most)) seen more rest = refl
+waits_keeps terms (busy at flow (coming_down side all_sent)) seen more rest = refl
+waits_keeps terms (busy at flow (coming_down side going_up)) seen more rest = refl
+waits_keeps terms (busy at flow (upgraded side)) seen more rest = refl
+waits_keeps terms (busy at flow given_head) seen more rest = refl
+waits_keeps terms (busy at flow given_body) seen more rest = refl
+waits_keeps terms (next at) seen more rest = refl
+waits_keeps terms over seen more rest = refl
 
 so_far_keeps : (terms : Terms) (stage : Stage) (seen : Sight) → Keeps (so_far terms stage seen)
-so_far_keeps terms (idle at) seen more rest = refl
-so_far_keeps terms (busy at flow (request_body given most)) seen more rest = refl
-so_far_keeps terms (busy at flow (connection how)) seen more rest = refl
-so_far_keeps terms (busy at flow (response_head side all_sent)) seen more rest = (says_interim flow.request (answers_in flow.request seen).interim).keeps more rest
-so_far_keeps terms (busy at flow (response_head side going_up)) seen more rest = ap (λ l. sends_going terms.place flow side seen ++ l) ((says_interim flow.request (answers_in flow.request seen).interim).keeps more rest)
-so_far_keeps terms (busy at flow (response_body side all_sent most)) seen more rest = refl
-so_far_keeps terms (busy at flow (response_body side going_up most)) seen more rest = refl
-so_far_keeps terms (busy at flow (coming_down side all_sent)) seen more rest = refl
-so_far_keeps terms (busy at flow (coming_down side going_up)) seen more rest = refl
-so_far_keeps terms (busy at flow (upgraded side)) seen more rest = refl
-so_far_keeps terms (busy at flow given_head) seen more rest = refl
-so_far_keeps terms (busy at flow given_body) seen more rest = refl
-so_far_keeps terms (next at) seen more rest = refl
-so_far_keeps terms over seen more rest = refl
+so_far_keeps terms stage seen = keep_both (strays stage seen) (waits_at terms stage seen) (says_strays stage seen).keeps (waits_keeps terms stage seen)
 
 -- what is found says the same up to the end of a flow, and the closes behind an ask say nothing
 found_said : (more : ℕ) (parts : List Command) (l : Look Command) → OnlyCloses parts → FoundInOrder l → said (first_flows (suc more) (found_with parts l)) ≡ said (found l)
@@ -148,8 +107,8 @@ module _ (terms : Terms) (events : List (Timed Event)) (all : List Command) wher
     stays_at : (stage : Stage) (seen : Sight) (opened : ℕ) (used : UsedBytes) (come : ℕ) (sent : List Command) (left : List Reply) → IsAt terms events all flows stage opened used come sent left → Stays stage seen
     stays_at (idle at) seen opened used come sent left is = record { goes = refl; uses = λ used. refl; onward = refl }
     stays_at (busy at flow (request_body None None)) seen opened used come sent left is = record {
-      goes = ap (λ b. behind_begun (pass_going b terms.place at flow None) seen) (begins_none terms.place at flow seen);
-      uses = λ used. ap (λ b. used_behind_begun (pass_going b terms.place at flow None) seen used) (begins_none terms.place at flow seen);
+      goes = ap (λ b. behind_begun (pass_going b terms.place at flow None seen) seen) (goes_none seen);
+      uses = λ used. ap (λ b. used_behind_begun (pass_going b terms.place at flow None seen) seen used) (goes_none seen);
       onward = refl;
     }
     stays_at (busy at flow (request_body None (Some most))) seen opened used come sent left is = absurd is
@@ -160,7 +119,7 @@ module _ (terms : Terms) (events : List (Timed Event)) (all : List Command) wher
     stays_at (busy at flow (response_head side going_up)) seen opened used come sent left is = absurd is
     stays_at (busy at flow (response_body side all_sent None)) seen opened used come sent left is = record {
       goes = ap (λ b. behind_turn (goes_to (busy at flow (response_body side all_sent None))) (pass_kept b terms.place at flow side all_sent None seen)) (streams_none flow seen);
-      uses = λ used. ap (λ b. used_by_kept b (came_in (streaming flow) seen) used) (streams_none flow seen);
+      uses = λ used. ap (λ b. used_by_kept b at (streaming flow) all_sent seen (came_in (streaming flow) seen) used) (streams_none flow seen);
       onward = refl;
     }
     stays_at (busy at flow (response_body side all_sent (Some most))) seen opened used come sent left is = absurd is
@@ -181,24 +140,31 @@ module _ (terms : Terms) (events : List (Timed Event)) (all : List Command) wher
         may_wait rest value replies
     stage_led (idle at) since opened used up prefix is sent replies value stands moment ask may_wait rest asks =
         let seen = sight_of (side_parked at.parked) since opened used up prefix in
-        idle_led terms events all flows sent moment value may_wait rest replies since opened used up prefix is ask (leaving (idle at) seen) at (request_in seen) refl stands asks
+        idle_led terms events all flows sent moment value may_wait rest replies since opened used up prefix is ask (leaving (unspoilt (idle at) seen) seen) (so_far terms (idle at) seen)
+        (says_waiting (idle at) seen) at (request_in seen) refl stands asks
     stage_led (busy at flow (request_body None (Some most))) since opened used up prefix is sent replies value stands moment ask may_wait rest asks = absurd stands
     stage_led (busy at flow (request_body None None)) since opened used up prefix is sent replies value stands moment ask may_wait rest asks =
         let seen = sight_of (side_parked at.parked) since opened used up prefix in
-        body_led terms events all flows sent moment value may_wait rest replies since opened used up prefix is ask (leaving (busy at flow (request_body None None)) seen) at flow
-        (request_in seen) refl stands asks
+        let body : Stage = busy at flow (request_body None None) in
+        body_led terms events all flows sent moment value may_wait rest replies since opened used up prefix is ask (leaving (unspoilt body seen) seen) (so_far terms body seen)
+        (says_waiting body seen) at flow (request_in seen) refl stands asks
     stage_led (busy at flow (request_body (Some response) most)) since opened used up prefix is sent replies value stands moment ask may_wait rest asks = absurd stands
     stage_led (busy at flow (connection going_up)) since opened used up prefix is sent replies value stands moment ask may_wait rest asks = absurd stands
     stage_led (busy at flow (connection all_sent)) since opened used up prefix is sent replies value stands moment ask may_wait rest asks =
-        dial_led terms events all flows sent moment value may_wait rest replies since opened used up prefix is ask [] at flow stands asks
+        let seen = sight_of (side_parked at.parked) since opened used up prefix in
+        let dialling : Stage = busy at flow (connection all_sent) in
+        dial_led terms events all flows sent moment value may_wait rest replies since opened used up prefix is ask [] (so_far terms dialling seen) (says_waiting dialling seen) at flow stands asks
     stage_led (busy at flow (response_head side going_up)) since opened used up prefix is sent replies value stands moment ask may_wait rest asks = absurd stands
     stage_led (busy at flow (response_head side all_sent)) since opened used up prefix is sent replies value stands moment ask may_wait rest asks =
-        answer_led terms events all flows sent moment value may_wait rest replies since opened used up prefix is ask at flow side stands
-        (answers_in flow.request (sight_of (Some side) since opened used up prefix)).final refl asks
+        let seen = sight_of (Some side) since opened used up prefix in
+        answer_led terms events all flows sent moment value may_wait rest replies since opened used up prefix is ask (unspoilt_at at seen) flow side
+        (record { went = stands.went; onward = stands.onward; from = stands.from; rest = stands.rest }) (answers_in flow.request seen).final refl asks
     stage_led (busy at flow (response_body side going_up most)) since opened used up prefix is sent replies value stands moment ask may_wait rest asks = absurd stands
     stage_led (busy at flow (response_body side all_sent None)) since opened used up prefix is sent replies value stands moment ask may_wait rest asks =
-        returned_led terms events all flows sent moment value may_wait rest replies since opened used up prefix is ask at flow side stands
-        (answers_in flow.request (sight_of (Some side) since opened used up prefix)).final refl asks
+        let seen = sight_of (Some side) since opened used up prefix in
+        returned_led terms events all flows sent moment value may_wait rest replies since opened used up prefix is ask (unspoilt_at at seen) flow side
+        (record { went = stands.went; onward = stands.onward; from = stands.from; head = stands.head; final = stands.final; response = stands.response; rest = stands.rest })
+        (answers_in flow.request seen).final refl asks
     stage_led (busy at flow (response_body side all_sent (Some most))) since opened used up prefix is sent replies value stands moment ask may_wait rest asks = absurd stands
     stage_led (busy at flow (coming_down side how)) since opened used up prefix is sent replies value stands moment ask may_wait rest asks = absurd stands
     stage_led (busy at flow (upgraded side)) since opened used up prefix is sent replies value stands moment ask may_wait rest asks = absurd (ends_ask [] ask asks)

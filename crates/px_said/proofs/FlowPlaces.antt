@@ -1,6 +1,6 @@
 -- Each flow that is asked about begins where the walk comes by a place where a request is awaited.
 use Rattle.std.proofs.Common.{◌≡◌, ℕ, Bool, true, false, List, [], ◌∷◌, ◌++◌, map, refl, ap, sym, ◌∙◌, subst, append_assoc}
-use Rattle.std.specs.Prelude.{⊤, if◌then◌else◌, not}
+use Rattle.std.specs.Prelude.{⊤, Option, Some, None, if◌then◌else◌, not}
 use Rattle.std.proofs.lemmas.List.{append-nil}
 use Rattle.px_message.specs.declared.fault.Fault.{Fault}
 use Rattle.px_message.specs.declared.fault.Fault.TheVariants.{BadResponse}
@@ -28,12 +28,13 @@ use Rattle.px_exchange.specs.declared.asked.Judged.TheVariants.{Accepted, Connec
 use Rattle.px_exchange.specs.declared.ending.Used.{Used}
 use Rattle.px_exchange.specs.declared.terms.Terms.{Terms}
 use Rattle.px_exchange.specs.Requests.{is_http11}
-use Rattle.px_chain.specs.Chain.{bad_or, http_chain, leaving, look, look_coming, sequence, so_far}
+use Rattle.px_chain.specs.Chain.{bad_or, http_chain, leaving, look, look_coming, sequence, so_far, waits_at}
+use Rattle.px_chain.specs.Keeping.{shut_by_byte, shut_stray, strays, unspoilt_at}
 use Rattle.px_chain.specs.Sights.{Sight, Standing, answers_in, request_in, server_in, server_parked, sight_over}
-use Rattle.px_chain.specs.Stages.{At, Stage, all_sent, busy, connection, given_body, given_head, going_up, idle, next, over, request_body, response_body, response_head, upgraded, coming_down}
+use Rattle.px_chain.specs.Stages.{At, Parked, Stage, all_sent, busy, connection, given_body, given_head, going_up, idle, next, over, request_body, response_body, response_head, upgraded, coming_down}
 use Rattle.px_said.specs.Walks.{ComesBy, FlowBegins, Walk, behind_reply, due_by_reply, due_from, goes_on, is_there, due_by_passing, heard_on, hears, passed_on, passes}
-use Rattle.px_said.proofs.ClosedTurns.{asks_nothing, asks_same, ends_ask}
-use Rattle.px_said.proofs.ClosedWalk.{walk_behind, reach_behind, with_these}
+use Rattle.px_said.proofs.ClosedLooks.{asks_nothing, asks_same, ends_ask}
+use Rattle.px_said.proofs.WalkLemmas.{walk_behind, reach_behind, with_these}
 use Rattle.px_chain.proofs.EndLemmas.{behind_closes, looks_in_order, turns_in_order, passes_in_order}
 use Rattle.px_read.specs.declared.head.ResponseHead.{ResponseHead as AnswerHead}
 
@@ -79,21 +80,45 @@ interim_if : (knows : Bool) (heads : List AnswerHead) → AsksNone (sends_on kno
 interim_if true heads = interim_none heads
 interim_if false heads = tt
 
+byte_none : (server : ℕ) (bytes : List ℕ) → AsksNone (shut_by_byte server bytes)
+byte_none server [] = tt
+byte_none server (byte ∷ more) = tt
+
+stray_none : (parked : Option Parked) (seen : Sight) → AsksNone (shut_stray parked seen)
+stray_none None seen = tt
+stray_none (Some parked) seen = byte_none parked.server seen.server
+
+strays_none : (stage : Stage) (seen : Sight) → AsksNone (strays stage seen)
+strays_none (idle at) seen = stray_none at.parked seen
+strays_none (busy at flow (request_body given most)) seen = stray_none at.parked seen
+strays_none (busy at flow (connection how)) seen = stray_none at.parked seen
+strays_none (busy at flow (response_head side how)) seen = tt
+strays_none (busy at flow (response_body side how most)) seen = tt
+strays_none (busy at flow (coming_down side how)) seen = tt
+strays_none (busy at flow (upgraded side)) seen = tt
+strays_none (busy at flow given_head) seen = stray_none at.parked seen
+strays_none (busy at flow given_body) seen = stray_none at.parked seen
+strays_none (next at) seen = stray_none at.parked seen
+strays_none over seen = tt
+
+waits_none : (terms : Terms) (stage : Stage) (seen : Sight) → AsksNone (waits_at terms stage seen)
+waits_none terms (idle at) seen = tt
+waits_none terms (busy at flow (request_body given most)) seen = tt
+waits_none terms (busy at flow (connection how)) seen = tt
+waits_none terms (busy at flow (response_head side all_sent)) seen = interim_if (is_http11 flow.request.version) (answers_in flow.request seen).interim
+waits_none terms (busy at flow (response_head side going_up)) seen = interim_if (is_http11 flow.request.version) (answers_in flow.request seen).interim
+waits_none terms (busy at flow (response_body side all_sent most)) seen = tt
+waits_none terms (busy at flow (response_body side going_up most)) seen = tt
+waits_none terms (busy at flow (coming_down side all_sent)) seen = tt
+waits_none terms (busy at flow (coming_down side going_up)) seen = tt
+waits_none terms (busy at flow (upgraded side)) seen = tt
+waits_none terms (busy at flow given_head) seen = tt
+waits_none terms (busy at flow given_body) seen = tt
+waits_none terms (next at) seen = tt
+waits_none terms over seen = tt
+
 so_far_none : (terms : Terms) (stage : Stage) (seen : Sight) → AsksNone (so_far terms stage seen)
-so_far_none terms (idle at) seen = tt
-so_far_none terms (busy at flow (request_body given most)) seen = tt
-so_far_none terms (busy at flow (connection how)) seen = tt
-so_far_none terms (busy at flow (response_head side all_sent)) seen = interim_if (is_http11 flow.request.version) (answers_in flow.request seen).interim
-so_far_none terms (busy at flow (response_head side going_up)) seen = interim_if (is_http11 flow.request.version) (answers_in flow.request seen).interim
-so_far_none terms (busy at flow (response_body side all_sent most)) seen = tt
-so_far_none terms (busy at flow (response_body side going_up most)) seen = tt
-so_far_none terms (busy at flow (coming_down side all_sent)) seen = tt
-so_far_none terms (busy at flow (coming_down side going_up)) seen = tt
-so_far_none terms (busy at flow (upgraded side)) seen = tt
-so_far_none terms (busy at flow given_head) seen = tt
-so_far_none terms (busy at flow given_body) seen = tt
-so_far_none terms (next at) seen = tt
-so_far_none terms over seen = tt
+so_far_none terms stage seen = both_none (strays stage seen) (waits_at terms stage seen) (strays_none stage seen) (waits_none terms stage seen)
 
 first_none : (command : Command) (rest : List Command) (asked : Ask) (flow : Flow) → AsksNone (command ∷ rest) → commands.Ask asked flow ≡ command → ⊥
 first_none (commands.Ask other its) rest asked flow none is = none
@@ -143,6 +168,10 @@ more_begins before waiting brought middle owed ask rest behind first front secon
     first
     ∙ (ap (λ l. owed ++ l) (front ∙ (ap (λ l. waiting ++ ask ∷ l) second ∙ sym (append_assoc waiting (ask ∷ brought) middle)))
     ∙ sym (append_assoc owed (waiting ++ ask ∷ brought) middle))
+
+-- what is due behind a reply, and what is owed there
+behind_reply_owes : (before by_reply middle due owed : List Command) → before ≡ by_reply ++ middle → middle ≡ due ++ owed → before ≡ (by_reply ++ due) ++ owed
+behind_reply_owes before by_reply middle due owed begins is = begins ∙ (ap (λ l. by_reply ++ l) is ∙ sym (append_assoc by_reply due owed))
 
 module _ (terms : Terms) (index : ℕ) (flow : Flow) where
   -- the question about a request's head
@@ -216,8 +245,8 @@ module _ (terms : Terms) (index : ℕ) (flow : Flow) where
   up_asks (bad_body fault head body) ends found closed leaving is = absurd (ends_ask _ question is)
 
   asks_at : (stage : Stage) (seen : Sight) → look terms stage seen ≡ Asks question → AsksAt stage
-  asks_at (idle at) seen is = record { at = at; is = refl; number = head_index at.flow (request_in seen) _ seen.now (server_parked at.parked seen) seen.closed is }
-  asks_at (busy at told (request_body given most)) seen is = absurd (body_asks told _ (request_in seen) seen.now (server_parked at.parked seen) seen.closed is)
+  asks_at (idle at) seen is = record { at = at; is = refl; number = head_index at.flow (request_in seen) _ seen.now (server_parked (unspoilt_at at seen).parked seen) seen.closed is }
+  asks_at (busy at told (request_body given most)) seen is = absurd (body_asks told _ (request_in seen) seen.now (server_parked (unspoilt_at at seen).parked seen) seen.closed is)
   asks_at (busy at told (connection how)) seen is = absurd (let same = asks_same _ question is in cc)
   asks_at (busy at told (response_head side all_sent)) seen is = absurd (answer_asks told _ (answers_in told.request seen).final seen.now (server_in side seen) seen.closed is)
   asks_at (busy at told (response_head side going_up)) seen is =
@@ -299,9 +328,6 @@ module _ (terms : Terms) (index : ℕ) (flow : Flow) where
 
   -- ---- the walk
 
-  idle_owes : (stage : Stage) (seen : Sight) (at : At) → stage ≡ idle at → so_far terms stage seen ≡ []
-  idle_owes stage seen at is = ap (λ s. so_far terms s seen) is
-
   module _ (here : Walk) (before behind : List Command) where
     abbrev reached : Reached Standing Event Command
     reached = reach chain here.last [] here.place here.prefix here.coming
@@ -321,14 +347,14 @@ module _ (terms : Terms) (index : ℕ) (flow : Flow) where
         FlowBegins terms here before index
     begins_here ask owed asks same first is =
         let there = asks_at reached.stage.stage (sight_over reached.stage reached.prefix) (asks ∙ ap Asks same) in
-        let none : owed ≡ [] = is ∙ (append-nil waits ∙ idle_owes reached.stage.stage (sight_over reached.stage reached.prefix) there.at there.is) in
         record {
           there = led_to here reached;
           at = there.at;
           awaits = there.is;
           flow = there.number;
-          comes = subst (ComesBy terms here (led_to here reached)) (sym (first ∙ (ap (λ l. reached.before ++ l) none ∙ append-nil reached.before)))
-              (comes_to here.replies here.last here.place here.prefix here.coming);
+          due = reached.before;
+          comes = comes_to here.replies here.last here.place here.prefix here.coming;
+          owes = first ∙ ap (λ l. reached.before ++ l) (is ∙ append-nil waits);
         }
 
     by_asked : (owed : List Command) → before ≡ reached.before ++ owed → (ask : Command) (middle rest : List Command) → chain.look reached.stage reached.prefix ≡ Asks ask → owed ≡ waits ++ middle →
@@ -400,14 +426,17 @@ module _ (terms : Terms) (index : ℕ) (flow : Flow) where
       (λ rest front left.
       let second = behind_quiet brought tail rest behind _ flow none_asked left in
       let further = begins rs r.stamp on.stage there.prefix there.rest second.middle behind (sym second.is) in
+      let by_reply = due_by_reply terms here ask r in
       record {
         there = further.there;
         at = further.at;
         awaits = further.awaits;
         flow = further.flow;
-        comes = subst (ComesBy terms here further.there) (sym (more_begins before waiting brought second.middle there.before ask rest owed searched.front front second.front))
-            (goes_on here (behind_reply terms here r rs) further.there (due_by_reply terms here ask r) second.middle
-            (record { ask = ask; asks = asks; reply = r; replies = rs; answers = refl; leads = refl; owes = refl }) further.comes);
+        due = by_reply ++ further.due;
+        comes = goes_on here (behind_reply terms here r rs) further.there by_reply further.due
+            (record { ask = ask; asks = asks; reply = r; replies = rs; answers = refl; leads = refl; owes = refl }) further.comes;
+        owes = behind_reply_owes before by_reply second.middle further.due (chain.so_far further.there.place further.there.prefix)
+            (more_begins before waiting brought second.middle there.before ask rest owed searched.front front second.front) further.owes;
       }))
       is
 

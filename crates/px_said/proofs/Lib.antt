@@ -1,7 +1,9 @@
 pub mod ClosedFronts
+pub mod ParkedFronts
 pub mod ClosedItems
 pub mod ClosedQuiet
 pub mod ClosedStages
+pub mod ClosedParked
 pub mod ClosedLooks
 pub mod ClosedTurns
 pub mod ClosedReturns
@@ -24,6 +26,7 @@ pub mod LineQuiet
 pub mod LineLooks
 pub mod LineStages
 pub mod LineSeen
+pub mod LineKept
 pub mod LineTurns
 pub mod LinePasses
 pub mod LineReturns

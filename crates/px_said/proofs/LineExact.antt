@@ -1,5 +1,5 @@
 -- Where a conversation stands whose replies go on over any size: in each view, what is due there begins what is left of all that is said, or is it.
-use Rattle.std.proofs.Common.{◌≡◌, ℕ, suc, ◌+◌, Bool, true, false, List, [], ◌∷◌, ◌++◌, length, Option, Some, None, refl, ap, sym, ◌∙◌, subst, append_assoc, inl, inr}
+use Rattle.std.proofs.Common.{◌≡◌, ℕ, suc, ◌+◌, Bool, true, false, List, [], ◌∷◌, ◌++◌, length, drop, Option, Some, None, refl, ap, sym, ◌∙◌, subst, append_assoc, inl, inr}
 use Rattle.std.specs.Prelude.{◌&&◌, ◌||◌, if◌then◌else◌, not, is_some, take}
 use Rattle.std.proofs.lemmas.List.{append-nil}
 use Rattle.px_text.specs.Prefix.{IsPrefixOf}
@@ -28,29 +28,31 @@ use Rattle.px_exchange.specs.Flows.{ask_of, response_of, with_answer}
 use Rattle.px_exchange.specs.Places.{dialled_for}
 use Rattle.px_exchange.specs.Requests.{is_head}
 use Rattle.px_exchange.specs.Texts.{interim_commands}
-use Rattle.px_chain.specs.Chain.{bad_or, begins_going, finds, leaves, leaving, look, look_coming, look_up, so_far}
+use Rattle.px_chain.specs.Chain.{bad_or, finds, leaves, leaving, look, look_coming, look_up, so_far}
 use Rattle.px_chain.specs.Coming.{came_by, came_in, coming_text, streams_by, streams_in}
-use Rattle.px_chain.specs.Going.{sends_up}
+use Rattle.px_chain.specs.Going.{goes_up, sends_up}
+use Rattle.px_chain.specs.Keeping.{unspoilt_at}
 use Rattle.px_chain.specs.Sights.{Sight, UsedBytes, answers_in, request_in, server_in, server_parked, sight_of}
 use Rattle.px_chain.specs.Stages.{At, Sent, Stage, all_sent, busy, coming_down, connection, going_up, idle, request_body, response_body, response_head, side_parked}
 use Rattle.px_chain.specs.Streams.{Since}
 use Rattle.px_chain.proofs.ChainLaws.{IsUnseen, commands_append, interim_unseen, left_prefix, up_grows}
 use Rattle.px_chain.proofs.ComingLaws.{in_two}
-use Rattle.px_said.specs.ClosedForm.{fault_said, is_whole, said, said_final, said_headed, said_relayed, said_returned}
+use Rattle.px_said.specs.ClosedForm.{Told, fault_said, is_whole, said, said_final, said_headed, said_relayed, said_returned}
 use Rattle.px_parts.specs.Streamed.{response_streams}
 use Rattle.px_parts.specs.Texts.{final_bytes}
 use Rattle.px_text.specs.Least.{least}
-use Rattle.px_said.specs.Lines.{Exchange, Start, Told, behind_reply, client_bytes, comes_down, ends_over, fault_by, fault_in, fault_up, goes_on_at, goes_on_kept, goes_on_over, goes_on_streamed, goes_up_over, is_ended, is_fault, next_allows, once_whole, said_down, said_next, said_request, said_response, said_start, said_way, sent_from, text_down, unless_fault}
+use Rattle.px_said.specs.Lines.{Exchange, Start, client_bytes, comes_down, ends_over, fault_by, fault_in, fault_up, goes_on_at, goes_on_over, goes_up_over, is_ended, is_fault, next_allows, once_whole, said_down, said_request, said_response, said_start, said_way, sent_from, text_down, unless_fault}
 use Rattle.px_said.proofs.ClosedFronts.{IsFront, IsSame, Waits, front_length, least_at, same_taken}
 use Rattle.px_said.proofs.ClosedItems.{items_split}
-use Rattle.px_said.proofs.ClosedQuiet.{early_said, says_fault, says_server}
-use Rattle.px_said.proofs.LineFronts.{answers_on, front_until, not_before, same_ended, same_more, same_until, text_grows, told_on}
+use Rattle.px_said.proofs.ClosedQuiet.{early_said, says_fault, says_server, says_waiting}
+use Rattle.px_said.proofs.ParkedFronts.{least_behind}
+use Rattle.px_said.proofs.LineFronts.{answers_on, front_until, same_ended, same_more, same_until, text_grows, told_on}
 use Rattle.px_said.proofs.LineLooks.{Here, Tells, body_tells, head_tells, here_of}
-use Rattle.px_said.proofs.LineQuiet.{Rest, rest_is, seen_front, sends_said, so_far_sends}
+use Rattle.px_said.proofs.LineQuiet.{Rest, rest_is, seen_front, sends_said, waits_sends}
 use Rattle.px_said.proofs.LinePasses.{Sees, text_seen}
 use Rattle.px_said.proofs.LineReturns.{text_longer, ups_seen}
-use Rattle.px_said.proofs.LineSeen.{carried, ended_here, goes_seen, same_client, same_down, same_goes_on, same_goes_up, same_text}
-use Rattle.px_said.proofs.LineStages.{Answering, Begun, Between, Coming, Connecting, Down, Onward, Returning, after_kept, after_streamed, answers_left, coming_left, down_of, down_over, ended_by, exchange_of, further_after, heard_by, next_of, parked_used, response_left, start_of, text_of, up_left, up_of}
+use Rattle.px_said.proofs.LineSeen.{carried, ended_here, same_client, same_down, same_goes_on, same_goes_up, same_text}
+use Rattle.px_said.proofs.LineStages.{Answering, Begun, Between, Coming, Connecting, Down, Onward, Returning, after_kept, after_streamed, answers_left, coming_left, down_of, down_over, ended_by, exchange_of, further_after, heard_by, response_left, start_of, text_of, up_left, up_of}
 
 -- ---- what grows
 
@@ -111,16 +113,18 @@ module _ (terms : Terms) (events : List (Timed Event)) (all : List Command) wher
     request_same : IsSame prefix events → request_item bytes ≡ request_item (client_bytes prefix used.client)
     request_same same = ap (λ (l : List ℕ). request_item l) (sym (same_client prefix events same used.client))
 
-    pub idle_stood : (at : At) → Between terms events all flows at opened used.client (parked_used at used) prefix sent replies → Stood (idle at) (parked_seen at) sent prefix
+    pub idle_stood : (at : At) → Between terms events all flows at opened used prefix sent replies → Stood (idle at) (parked_seen at) sent prefix
     idle_stood at b =
         let seen = parked_seen at in
-        let parked = server_parked at.parked seen in
-        let start = start_of at opened used.client (parked_used at used) b.from replies in
+        let there = unspoilt_at at seen in
+        let parked = server_parked there.parked seen in
+        let start = start_of at b.waiting used.client b.from replies in
         let further = further_after terms events all flows used.client in
         record {
           left = said_start terms events start (head_in (request_item bytes)) (request_item bytes) further;
           is = rest_is all sent _ _ b.rest (ap (λ l. sent_from terms events start (take (suc flows) l)) (items_split bytes));
-          here = here_of (IsSame prefix events) seen.closed (leaving (idle at) seen) (look_head terms at.flow (request_in seen) seen.now parked seen.closed) [] [] _ refl
+          here = here_of (IsSame prefix events) seen.closed (leaving (idle there) seen) (look_head terms at.flow (request_in seen) seen.now parked seen.closed) (so_far terms (idle at) seen) [] _
+              (says_waiting (idle at) seen).is
               (says_server parked).is
               (head_tells (IsSame prefix events) terms events start further at.flow (request_in seen) (request_item bytes) seen.now parked seen.closed
               (carried used.client prefix events front) request_same);
@@ -135,58 +139,61 @@ module _ (terms : Terms) (events : List (Timed Event)) (all : List Command) wher
     none_said (bad_head fault) good unfinished start asked come further = refl
     none_said (bad_body fault head body) good unfinished start asked come further = absurd (let no : Some fault ≡ None = good in cc)
 
-    pub body_stood : (at : At) (flow : Flow) (most : Option ℕ) → begins_going terms.place at flow most (parked_seen at) ≡ false →
-        Begun terms events all flows at flow.request most opened used.client (parked_used at used) up prefix sent replies → Stood (busy at flow (request_body None most)) (parked_seen at) sent prefix
+    pub body_stood : (at : At) (flow : Flow) (most : Option ℕ) → goes_up most (parked_seen at) ≡ false →
+        Begun terms events all flows at flow.request most opened used up prefix sent replies → Stood (busy at flow (request_body None most)) (parked_seen at) sent prefix
     body_stood at flow most kept b =
         let seen = parked_seen at in
-        let parked = server_parked at.parked seen in
-        let start = start_of at opened used.client (parked_used at used) b.from replies in
+        let there = unspoilt_at at seen in
+        let parked = server_parked there.parked seen in
+        let start = start_of at b.waiting used.client b.from replies in
         let F = further_after terms events all flows used.client in
         let item = request_item (client_bytes prefix used.client) in
-        let not_up : goes_up_over terms start flow.request most prefix ≡ false = goes_seen terms at flow most since opened used up b.from replies prefix ∙ kept in
-        let left : List Command = said_request terms events start flow.request most (request_item bytes) (goes_on_at terms events start flow.request most) F in
+        let not_up : goes_up_over start most prefix ≡ false = kept in
+        let left : List Command = said_request terms events start flow.request most (request_item bytes) (goes_on_at events start most) F in
         record {
           left = left;
           is = b.rest;
-          here = here_of (IsSame prefix events) seen.closed (leaves at flow (request_body None most) seen) (finds terms.place at flow (request_body None most) seen) [] [] left refl
+          here = here_of (IsSame prefix events) seen.closed (leaves there flow (request_body None most) seen) (finds terms.place there flow (request_body None most) seen)
+              (so_far terms (busy at flow (request_body None most)) seen) [] left (says_waiting (busy at flow (request_body None most)) seen).is
               (early_said flow closed_message seen.now parked true)
               (body_tells (IsSame prefix events) flow (request_in seen) left seen.now parked seen.closed
               (λ fault head body is.
               let come = length prefix in
               let alike = same_taken prefix events front in
               let taken = take come events in
-              let test : goes_on_over terms start flow.request most taken ≡ true =
-              sym (same_goes_on prefix taken alike terms start flow.request most) ∙ ap (λ (i : Item ReadRequest). is_decided i || goes_up_over terms start flow.request most prefix) is in
-              let found : goes_on_at terms events start flow.request most ≡ Some come =
-              least_at (λ k. goes_on_over terms start flow.request most (take k events)) b.from come (length events) b.within (front_length prefix events front) b.waits test in
-              let way : goes_up_over terms start flow.request most taken ≡ false = sym (same_goes_up prefix taken alike terms start flow.request most) ∙ not_up in
+              let test : goes_on_over start most taken ≡ true =
+              sym (same_goes_on prefix taken alike start most) ∙ ap (λ (i : Item ReadRequest). is_decided i || goes_up_over start most prefix) is in
+              let found : goes_on_at events start most ≡ Some come =
+              least_at (λ k. goes_on_over start most (take k events)) b.from come (length events) b.within (front_length prefix events front) b.waits test in
+              let way : goes_up_over start most taken ≡ false = sym (same_goes_up prefix taken alike start most) ∙ not_up in
               let all_is : request_item bytes ≡ bad_body fault head body = (carried used.client prefix events front).stays (ap is_decided is) ∙ is in
               ap (λ o. said_request terms events start flow.request most (request_item bytes) o F) found
               ∙ (ap (λ w. said_way w terms events start flow.request (request_item bytes) come F) way
               ∙ ap (λ i. said_way false terms events start flow.request i come F) all_is))
               (λ same good unfinished.
               let all_is = request_same same in
-              never_said start flow.request most F b.from b.waits same not_up (ap fault_in all_is ∙ good) (ap is_whole all_is ∙ unfinished) (goes_on_at terms events start flow.request most) refl));
+              never_said start flow.request most F b.from b.waits same not_up (ap fault_in all_is ∙ good) (ap is_whole all_is ∙ unfinished) (goes_on_at events start most) refl));
         }
       where
-        never_said : (start : Start) (asked : Request) (most : Option ℕ) (F : Start → List Command) (from : ℕ) → Waits (λ k. goes_on_over terms start asked most (take k events)) from (length prefix) →
-            IsSame prefix events → goes_up_over terms start asked most prefix ≡ false → fault_in (request_item bytes) ≡ None → is_whole (request_item bytes) ≡ false → (found : Option ℕ) →
-            least (λ k. goes_on_over terms start asked most (take k events)) from (length events + 1) ≡ found → said_request terms events start asked most (request_item bytes) found F ≡ []
+        never_said : (start : Start) (asked : Request) (most : Option ℕ) (F : Start → List Command) (from : ℕ) → Waits (λ k. goes_on_over start most (take k events)) from (length prefix) →
+            IsSame prefix events → goes_up_over start most prefix ≡ false → fault_in (request_item bytes) ≡ None → is_whole (request_item bytes) ≡ false → (found : Option ℕ) →
+            least (λ k. goes_on_over start most (take k events)) from (length events + 1) ≡ found → said_request terms events start asked most (request_item bytes) found F ≡ []
         never_said start asked most F from waits same not_up good unfinished None is = refl
         never_said start asked most F from waits same not_up good unfinished (Some k) is =
-            let later = not_before (λ k. goes_on_over terms start asked most (take k events)) from (length prefix) (length events + 1) k waits is in
+            let later = least_behind (λ k. goes_on_over start most (take k events)) from (length prefix) (length events + 1) k waits is in
             let alike = same_more k prefix events same later in
-            ap (λ w. said_way w terms events start asked (request_item bytes) k F) (sym (same_goes_up prefix (take k events) alike terms start asked most) ∙ not_up)
+            ap (λ w. said_way w terms events start asked (request_item bytes) k F) (sym (same_goes_up prefix (take k events) alike start most) ∙ not_up)
             ∙ none_said (request_item bytes) good unfinished start asked k F
 
-    pub connecting_stood : (how : Sent) (at : At) (flow : Flow) → Connecting terms events all flows how at flow.request opened used.client (parked_used at used) up prefix sent replies →
+    pub connecting_stood : (how : Sent) (at : At) (flow : Flow) → Connecting terms events all flows how at flow.request used up prefix sent replies →
         Stood (busy at flow (connection how)) (parked_seen at) sent prefix
     connecting_stood how at flow c =
         let seen = parked_seen at in
         record {
           left = _;
           is = c.rest;
-          here = here_of (IsSame prefix events) seen.closed [] (finds terms.place at flow (connection how) seen) [] [] _ refl refl (seen_front (commands.Dial at.dials (dialled_for terms.place flow.request) None ∷ []) _ (_, refl), λ goes. goes);
+          here = here_of (IsSame prefix events) seen.closed [] (finds terms.place at flow (connection how) seen) (so_far terms (busy at flow (connection how)) seen) [] _
+              (says_waiting (busy at flow (connection how)) seen).is refl (seen_front (commands.Dial at.dials (dialled_for terms.place flow.request) None ∷ []) _ (_, refl), λ goes. goes);
         }
 
     -- ---- behind a request that went to its server
@@ -269,7 +276,7 @@ module _ (terms : Terms) (events : List (Timed Event)) (all : List Command) wher
 
       module _ (s : Answering terms events all flows how at flow.request side opened used up prefix sent replies) where
         abbrev answers_for : Down → List Command
-        answers_for d = answers_left terms d at opened s.from flow.request replies
+        answers_for d = answers_left terms d at flow.request replies
 
         abbrev left_there : List Command
         left_there = up_left how side up (text_of terms events all flows how flow.request side opened used s.went) ++ answers_for (down s.went s.onward)
@@ -278,12 +285,7 @@ module _ (terms : Terms) (events : List (Timed Event)) (all : List Command) wher
         texts = first ++ interim
 
         abbrev said_there : List Command
-        said_there =
-            let d = now_down s.went s.onward in
-            let start = next_of d at opened s.from replies in
-            said_response (next_allows terms replies) flow.request d.told d.fault
-            (λ head. said_next (d.sent && goes_on_streamed start flow.request head) (behind_reply start) d.ended d.further)
-            (λ response. said_next (d.sent && goes_on_kept start flow.request response) (behind_reply (behind_reply start)) d.ended d.further)
+        said_there = response_left terms (now_down s.went s.onward) at flow.request (drop 1 replies) (next_allows terms replies)
 
         all_there : (more : List Command) → IsSame prefix (heard s.went s.onward) → said_there ≡ more → left_there ≡ texts ++ more
         all_there more same is =
@@ -297,10 +299,7 @@ module _ (terms : Terms) (events : List (Timed Event)) (all : List Command) wher
             let longer = carry.interim in
             let more = interim_commands flow.request longer.0 in
             let d = down s.went s.onward in
-            let start = next_of d at opened s.from replies in
-            let tail : List Command = said_response (next_allows terms replies) flow.request d.told d.fault
-            (λ head. said_next (d.sent && goes_on_streamed start flow.request head) (behind_reply start) d.ended d.further)
-            (λ response. said_next (d.sent && goes_on_kept start flow.request response) (behind_reply (behind_reply start)) d.ended d.further) in
+            let tail : List Command = response_left terms d at flow.request (drop 1 replies) (next_allows terms replies) in
             let split : answers_for d ≡ interim ++ (more ++ tail) =
             ap (λ l. interim_commands flow.request l ++ tail) longer.1
             ∙ (ap (λ l. l ++ tail) (commands_append flow.request found_answers.interim longer.0) ∙ append_assoc interim more tail) in
@@ -325,11 +324,10 @@ module _ (terms : Terms) (events : List (Timed Event)) (all : List Command) wher
           headed_tells false item head relays is there =
               let ends = ends_by_response s.went s.onward item is (ended_unrelayed item head there relays) in
               let d = now_down s.went s.onward in
-              let start = next_of d at opened s.from replies in
               let most = next_allows terms replies in
               let asked_head = is_head flow.request.method in
-              let streamed : ReadResponse → List Command = λ head. said_next (d.sent && goes_on_streamed start flow.request head) (behind_reply start) d.ended d.further in
-              let kept : Response → List Command = λ response. said_next (d.sent && goes_on_kept start flow.request response) (behind_reply (behind_reply start)) d.ended d.further in
+              let streamed = after_streamed terms d at flow.request (drop 1 replies) in
+              let kept = after_kept terms d at flow.request (drop 1 replies) in
               let so : said_there ≡ fault_said BadResponse asked_head =
               response_now s.went s.onward most streamed kept item None is good
               ∙ (ap (λ o. said_down (comes_down most asked_head d.told o) flow.request d.told item None streamed kept) there
@@ -368,7 +366,7 @@ module _ (terms : Terms) (events : List (Timed Event)) (all : List Command) wher
         left = left_there s;
         is = s.rest;
         here = here_of (IsSame prefix events) seen.closed (leaves at flow (response_head side how) seen) (finds terms.place at flow (response_head side how) seen) (texts s) (texts s) (left_there s)
-            (sends_said (texts s) (so_far_sends terms (busy at flow (response_head side how)) seen))
+            (sends_said (texts s) (waits_sends terms (busy at flow (response_head side how)) seen))
             (early_said flow closed_message seen.now (server_in side seen) true)
             (up_tells (IsSame prefix events) how side since opened used up prefix (texts s) (left_there s)
             (λ fault. ends_by_fault flow fault seen.now (server_in side seen) seen.closed) (look_answer flow found_answers.final seen.now (server_in side seen) seen.closed)
@@ -379,13 +377,13 @@ module _ (terms : Terms) (events : List (Timed Event)) (all : List Command) wher
 
       module _ (most : Option ℕ) (kept : streams_in flow most seen ≡ false) (s : Returning terms events all flows how at flow most side opened used up prefix sent replies) where
         abbrev returned_for : Down → List Command
-        returned_for d = response_left d at opened s.from flow.request replies most
+        returned_for d = response_left terms d at flow.request replies most
 
         abbrev returned_left : List Command
         returned_left = up_left how side up (text_of terms events all flows how flow.request side opened used s.went) ++ returned_for (down s.went s.onward)
 
         abbrev kept_behind : Response → List Command
-        kept_behind = after_kept (now_down s.went s.onward) at opened s.from flow.request replies
+        kept_behind = after_kept terms (now_down s.went s.onward) at flow.request replies
 
         returned_now : (more : List Command) → IsSame prefix (heard s.went s.onward) → returned_for (now_down s.went s.onward) ≡ more → returned_left ≡ first ++ more
         returned_now more same is =
@@ -398,7 +396,7 @@ module _ (terms : Terms) (events : List (Timed Event)) (all : List Command) wher
         kept_now item fault is faulty =
             let d = now_down s.went s.onward in
             let asked_head = is_head flow.request.method in
-            let streamed = after_streamed d at opened s.from flow.request replies in
+            let streamed = after_streamed terms d at flow.request replies in
             let there : head_in item ≡ Some s.head = ap head_in (sym is) ∙ s.there in
             let not_streamed : streams_by (Some (response_of s.head)) flow.request most d.told.shut d.told.bytes ≡ false =
             sym (ap (λ o. streams_by o flow.request most d.told.shut d.told.bytes) s.response) ∙ kept in
@@ -446,7 +444,7 @@ module _ (terms : Terms) (events : List (Timed Event)) (all : List Command) wher
           left = returned_left;
           is = s.rest;
           here = here_of (IsSame prefix events) seen.closed (leaves at flow (response_body side how most) seen) (finds terms.place at flow (response_body side how most) seen) first first returned_left
-              (sends_said first (so_far_sends terms (busy at flow (response_body side how most)) seen))
+              (sends_said first (waits_sends terms (busy at flow (response_body side how most)) seen))
               (early_said (without_response flow) closed_message seen.now (server_in side seen) true)
               (up_tells (IsSame prefix events) how side since opened used up prefix first returned_left
               (λ fault. ends_by_fault flow fault seen.now (server_in side seen) seen.closed) (look_returned flow found_answers.final seen.now (server_in side seen) seen.closed)
@@ -458,7 +456,7 @@ module _ (terms : Terms) (events : List (Timed Event)) (all : List Command) wher
       module _ (s : Coming terms events all flows how at flow side opened used up prefix sent replies) (none : came_in flow seen ≡ None)
           (sees : Sees terms events all flows prefix front how at side opened used up sent replies seen flow s.went) where
         abbrev coming_for : Down → List Command
-        coming_for d = coming_left d at opened s.from flow.request replies s.head
+        coming_for d = coming_left terms d at flow.request replies s.head
 
         abbrev coming_there : List Command
         coming_there = up_left how side up (text_of terms events all flows how flow.request side opened used s.went) ++ coming_for (down s.went s.onward)
@@ -483,7 +481,7 @@ module _ (terms : Terms) (events : List (Timed Event)) (all : List Command) wher
         coming_now same =
             ap (λ l. l ++ coming_for (down s.went s.onward)) (text_now s.went s.onward same)
             ∙ (ap (λ d. first ++ coming_for d) (down_now s.went s.onward same)
-            ∙ (ap (λ t. first ++ (commands.Send Client t ∷ once_whole found_answers.final (after_streamed (now_down s.went s.onward) at opened s.from flow.request replies))) (sym text_is)
+            ∙ (ap (λ t. first ++ (commands.Send Client t ∷ once_whole found_answers.final (after_streamed terms (now_down s.went s.onward) at flow.request replies))) (sym text_is)
             ∙ ap (λ l. first ++ (commands.Send Client (coming_text flow seen) ∷ l)) (not_whole found_answers.final refl _)))
 
         coming_begins : (view : View) → IsPrefixOf (seen_of view coming_texts) (seen_of view coming_there)
@@ -519,7 +517,7 @@ module _ (terms : Terms) (events : List (Timed Event)) (all : List Command) wher
           left = coming_there;
           is = s.rest;
           here = here_of (IsSame prefix events) seen.closed (leaves at flow (coming_down side how) seen) (finds terms.place at flow (coming_down side how) seen) coming_texts coming_texts coming_there
-              (sends_said coming_texts (so_far_sends terms (busy at flow (coming_down side how)) seen))
+              (sends_said coming_texts (waits_sends terms (busy at flow (coming_down side how)) seen))
               (early_said flow closed_message seen.now (server_in side seen) true)
               (up_tells (IsSame prefix events) how side since opened used up prefix coming_texts coming_there
               (λ fault. ends_early flow (fault_message fault) seen.now (server_in side seen) seen.closed) (look_coming flow found_answers.final seen.now (server_in side seen) seen.closed)

@@ -1,10 +1,8 @@
 -- What is heard of an exchange up to where it ends: a prefix of the events begins it, and what was told by then is carried on.
-use Rattle.std.proofs.Common.{◌≡◌, ℕ, zero, suc, ◌+◌, ◌≤◌, Bool, true, false, List, [], ◌∷◌, ◌++◌, length, drop, Option, Some, None, refl, ap, sym, ◌∙◌, subst, arith, inl, inr}
+use Rattle.std.proofs.Common.{◌≡◌, ℕ, zero, suc, ◌+◌, ◌≤◌, Bool, true, false, List, [], ◌∷◌, ◌++◌, length, drop, Option, Some, None, refl, ap, sym, ◌∙◌, subst, arith}
 use Rattle.std.specs.Prelude.{◌&&◌, take}
-use Rattle.std.proofs.lemmas.Bool.Decides.{leb_tells}
 use Rattle.px_text.specs.Least.{least}
 use Rattle.px_text.specs.Prefix.{IsPrefixOf}
-use Rattle.px_text.proofs.LeastLemmas.{least-Some}
 use Rattle.px_message.specs.declared.request.Request.{Request}
 use Rattle.px_event.specs.declared.event.Event.{Event}
 use Rattle.px_event.specs.declared.side.Side.TheVariants.{Server}
@@ -21,16 +19,12 @@ use Rattle.px_parts.proofs.StreamedLemmas.{response-streams_on}
 use Rattle.px_parts.proofs.TextLemmas.{final_text-grows}
 use Rattle.px_exchange.specs.Flows.{response_of}
 use Rattle.px_chain.specs.Coming.{framed_as}
-use Rattle.px_said.specs.Lines.{Told, answers_to, comes_down, text_down, told_by, until}
-use Rattle.px_said.proofs.ClosedFronts.{Grows, IsFront, IsSame, Waits, answers_grow, drop_on, front_behind, same_bytes, same_closed, same_taken, side_grows}
+use Rattle.px_said.specs.ClosedForm.{Told, told_by}
+use Rattle.px_said.specs.Lines.{answers_to, comes_down, text_down, until}
+use Rattle.px_said.proofs.ClosedFronts.{Grows, IsFront, IsSame, Waits, answers_grow, drop_on, front_behind, grows_behind, same_taken, side_grows}
+use Rattle.px_said.proofs.ParkedFronts.{front_taken, least_behind}
 
 -- ---- so many of the events
-
-pub front_taken : (n : ℕ) (prefix events : List (Timed Event)) → IsFront prefix events → length prefix ≤ n → IsFront prefix (take n events)
-front_taken n [] events is less = tt
-front_taken n (e ∷ prefix) [] is less = absurd is
-front_taken zero (e ∷ prefix) (x ∷ events) is less = absurd (omega (arith, less))
-front_taken (suc n) (e ∷ prefix) (x ∷ events) is less = (is.0, front_taken n prefix events is.1 (omega (arith, less)))
 
 pub same_more : (n : ℕ) (prefix events : List (Timed Event)) → IsSame prefix events → length prefix ≤ n → IsSame prefix (take n events)
 same_more zero [] [] is less = tt
@@ -40,32 +34,19 @@ same_more n (e ∷ prefix) [] is less = absurd is
 same_more zero (e ∷ prefix) (x ∷ events) is less = absurd (omega (arith, less))
 same_more (suc n) (e ∷ prefix) (x ∷ events) is less = (is.0, same_more n prefix events is.1 (omega (arith, less)))
 
--- what was found holds over no fewer than those over which it was waited for
-pub not_before : (test : ℕ → Bool) (went come size k : ℕ) → Waits test went come → least test went size ≡ Some k → come ≤ k
-not_before test went come size k waits found =
-    let it = least-Some test went size k found in
-    elim (leb_tells come k) [
-      | inl less ↦ less.1
-      | inr more ↦
-          let less = more.1 in
-          let fails : test k ≡ false = waits k it.from (omega arith) in
-          let passes : test k ≡ true = it.passes in
-          absurd (let both : true ≡ false = sym passes ∙ fails in cc)
-    ]
-
 -- ---- up to where something holds
 
 module _ (test : ℕ → Bool) (went : ℕ) (prefix events : List (Timed Event)) (waits : Waits test went (length prefix)) where
   front_by : (found : Option ℕ) → least test went (length events + 1) ≡ found → IsFront prefix events → IsFront prefix (until found events)
   front_by None is front = front
-  front_by (Some k) is front = front_taken k prefix events front (not_before test went (length prefix) (length events + 1) k waits is)
+  front_by (Some k) is front = front_taken prefix events k front (least_behind test went (length prefix) (length events + 1) k waits is)
 
   pub front_until : IsFront prefix events → IsFront prefix (until (least test went (length events + 1)) events)
   front_until front = front_by (least test went (length events + 1)) refl front
 
   same_by : (found : Option ℕ) → least test went (length events + 1) ≡ found → IsSame prefix events → IsSame prefix (until found events)
   same_by None is same = same
-  same_by (Some k) is same = same_more k prefix events same (not_before test went (length prefix) (length events + 1) k waits is)
+  same_by (Some k) is same = same_more k prefix events same (least_behind test went (length prefix) (length events + 1) k waits is)
 
   -- where all events are those of the prefix
   pub same_until : IsSame prefix events → IsSame prefix (until (least test went (length events + 1)) events)
@@ -76,20 +57,6 @@ module _ (test : ℕ → Bool) (went : ℕ) (prefix events : List (Timed Event))
   same_ended front is = subst (λ found. IsSame prefix (until found events)) (sym is) (same_taken prefix events front)
 
 -- ---- what was told
-
-same_drop : (n : ℕ) (prefix events : List (Timed Event)) → IsSame prefix events → IsSame (drop n prefix) (drop n events)
-same_drop zero prefix events is = is
-same_drop (suc n) [] [] is = tt
-same_drop (suc n) [] (x ∷ events) is = absurd is
-same_drop (suc n) (e ∷ prefix) [] is = absurd is
-same_drop (suc n) (e ∷ prefix) (x ∷ events) is = same_drop n prefix events is.1
-
-pub same_told : (server opened used : ℕ) (prefix events : List (Timed Event)) → IsSame prefix events → told_by prefix server opened used ≡ told_by events server opened used
-same_told server opened used prefix events is =
-    let behind = same_drop opened prefix events is in
-    let bytes = same_bytes (Server server) (drop opened prefix) (drop opened events) behind in
-    let shut = same_closed (Server server) (drop opened prefix) (drop opened events) behind in
-    λ i. record { bytes = drop used (bytes i); shut = shut i }
 
 -- what more was told goes on with it
 pub data GoesOn (told later : Told) : Type 0 where
@@ -102,15 +69,10 @@ on_by told later true is grows =
     on_same (λ i. record { bytes = both.1 i; shut = (both.0 ∙ sym is) i })
 on_by told later false is grows = on_more is (grows.more, grows.grown)
 
-grows_dropped : (used : ℕ) (bytes all : List ℕ) (shut ended : Bool) → Grows bytes shut all ended → Grows (drop used bytes) shut (drop used all) ended
-grows_dropped used bytes all shut ended on =
-    let further = drop_on used bytes on.more in
-    record { more = further.0; grown = ap (drop used) on.grown ∙ further.1; shuts = λ e. (let both = on.shuts e in (both.0, ap (drop used) both.1)) }
-
 pub told_on : (server opened used : ℕ) (prefix events : List (Timed Event)) → IsFront prefix events → GoesOn (told_by prefix server opened used) (told_by events server opened used)
 told_on server opened used prefix events is =
     on_by (told_by prefix server opened used) (told_by events server opened used) (told_by prefix server opened used).shut refl
-    (grows_dropped used _ _ _ _ (side_grows (Server server) (drop opened prefix) (drop opened events) (front_behind opened prefix events is)))
+    (grows_behind used _ _ _ _ (side_grows (Server server) (drop opened prefix) (drop opened events) (front_behind opened prefix events is)))
 
 pub answers_on : (request : Request) (server opened used : ℕ) (prefix events : List (Timed Event)) → IsFront prefix events →
     AnswersCarry (answers_to request (told_by prefix server opened used)) (answers_to request (told_by events server opened used))

@@ -1,6 +1,6 @@
 -- What a stage that does not pass shows; and where a conversation stands whose replies go on over any size, with one event more.
 use Rattle.std.proofs.Common.{◌≡◌, ℕ, ◌+◌, Bool, true, false, List, [], ◌∷◌, ◌++◌, length, Option, Some, None, refl, ap, sym, ◌∙◌, subst, arith, inl, inr, length-append}
-use Rattle.std.specs.Prelude.{◌&&◌, ◌||◌, ◌⊎◌, if◌then◌else◌, not, take}
+use Rattle.std.specs.Prelude.{◌||◌, ◌⊎◌, if◌then◌else◌, not, take}
 use Rattle.px_message.specs.declared.fault.Fault.{Fault}
 use Rattle.px_message.specs.declared.fault.Fault.TheVariants.{BadResponse}
 use Rattle.px_message.specs.declared.flow.Flow.{Flow}
@@ -24,9 +24,10 @@ use Rattle.px_write.specs.Error.{fault_message}
 use Rattle.px_exchange.specs.Finds.{is_relayed, look_answer, look_body, look_head, look_judged, look_returned, or_leaves}
 use Rattle.px_exchange.specs.Flows.{ask_of, response_of, with_answer}
 use Rattle.px_exchange.specs.Requests.{judged}
-use Rattle.px_chain.specs.Chain.{bad_or, begins_going, behind_flow, goes_up_by, leaves, leaving, look, look_coming, look_up, parked_for, pass, pass_came, pass_kept, past_gone, sequence}
+use Rattle.px_chain.specs.Chain.{bad_or, behind_flow, goes_up_by, keeps_came, leaves, leaving, look, look_coming, look_up, parked_for, pass, pass_came, pass_kept, past_gone, sequence}
 use Rattle.px_chain.specs.Coming.{Came, came_by, came_in, streaming, streams_in}
 use Rattle.px_chain.specs.Going.{goes_up, is_sent, sending_on, whole_by, whole_in, with_whole}
+use Rattle.px_chain.specs.Keeping.{parks, unspoilt_at}
 use Rattle.px_chain.specs.Sights.{Sight, UsedBytes, answers_in, request_in, server_in, server_parked, sight_of}
 use Rattle.px_chain.specs.Stages.{At, Doing, Sent, Stage, all_sent, busy, coming_down, connection, given_body, given_head, going_up, idle, next, over, request_body, response_body, response_head, side_of, side_parked, unparked, upgraded}
 use Rattle.px_chain.specs.Streams.{Since, client_closed}
@@ -38,10 +39,11 @@ use Rattle.px_said.proofs.ClosedFronts.{IsFront, Waits, same_taken, waits_more}
 use Rattle.px_said.proofs.ClosedLooks.{none_found}
 use Rattle.px_said.proofs.LineExact.{Stood, answering_stood, body_stood, coming_stood, connecting_stood, idle_stood, returning_stood}
 use Rattle.px_said.proofs.LineFronts.{answers_on}
+use Rattle.px_said.proofs.LineKept.{kept_on}
 use Rattle.px_said.proofs.LineLooks.{Here}
 use Rattle.px_said.proofs.LineReturns.{text_longer}
-use Rattle.px_said.proofs.LineSeen.{carried, goes_seen, one_side, same_client, same_ends, same_goes_on}
-use Rattle.px_said.proofs.LineStages.{IsAt, Onward, UpTo, begun_over, exchange_of, parked_used, start_of, text_over, up_of}
+use Rattle.px_said.proofs.LineSeen.{carried, one_side, same_client, same_ends, same_goes_on}
+use Rattle.px_said.proofs.LineStages.{IsAt, Onward, UpTo, begun_over, exchange_of, start_of, text_over, up_of}
 
 -- ---- a stage that does not pass
 
@@ -53,7 +55,7 @@ module _ (terms : Terms) (at : At) (side : ℕ) where
   came_not : (came : Option Came) (flow other : Flow) (how way : Sent) (most : Option ℕ) (seen : Sight) →
       sequence (pass_came terms.place at flow side how seen came).stage ≡ busy at other (response_body side way most) → ⊥
   came_not None flow other how way most seen is = let no : busy at flow (coming_down side how) ≡ busy at other (response_body side way most) = is in cc
-  came_not (Some came) flow other how way most seen is = behind_not _ (unparked at) at other (response_body side way most) is
+  came_not (Some came) flow other how way most seen is = behind_not _ (parks (keeps_came at flow how seen came) terms.place at flow.request side) at other (response_body side way most) is
 
   kept_by : (streams : Bool) (flow : Flow) (how : Sent) (most : Option ℕ) (seen : Sight) → streams_in flow most seen ≡ streams →
       sequence (pass_kept streams terms.place at flow side how most seen).stage ≡ busy at flow (response_body side how most) → streams_in flow most seen ≡ false
@@ -75,12 +77,12 @@ module _ (terms : Terms) (at : At) (side : ℕ) where
   came_by_none : (came : Option Came) (flow : Flow) (how : Sent) (seen : Sight) → came_in flow seen ≡ came →
       sequence (pass_came terms.place at flow side how seen came).stage ≡ busy at flow (coming_down side how) → came_in flow seen ≡ None
   came_by_none None flow how seen is settled = is
-  came_by_none (Some came) flow how seen is settled = absurd (behind_not _ (unparked at) at flow (coming_down side how) settled)
+  came_by_none (Some came) flow how seen is settled = absurd (behind_not _ (parks (keeps_came at flow how seen came) terms.place at flow.request side) at flow (coming_down side how) settled)
 
   coming_not : (came : Option Came) (flow other : Flow) (seen : Sight) →
       sequence (pass_came terms.place at flow side all_sent seen came).stage ≡ busy at other (coming_down side going_up) → ⊥
   coming_not None flow other seen settled = let no : busy at flow (coming_down side all_sent) ≡ busy at other (coming_down side going_up) = settled in cc
-  coming_not (Some came) flow other seen settled = behind_not _ (unparked at) at other (coming_down side going_up) settled
+  coming_not (Some came) flow other seen settled = behind_not _ (parks (keeps_came at flow all_sent seen came) terms.place at flow.request side) at other (coming_down side going_up) settled
 
   coming_up : (size : Option ℕ) (flow : Flow) (seen : Sight) → whole_in seen ≡ size →
       sequence (passes_by size terms at flow (coming_down side going_up) seen).stage ≡ busy at flow (coming_down side going_up) →
@@ -121,14 +123,6 @@ coming_settled terms at flow side going_up since opened used up prefix settled =
     (both.1, sym (undone (request_item (client_bytes prefix used.client)) both.0))
 
 -- a request that is kept
-and_left : (a b : Bool) → (a && b) ≡ true → a ≡ true
-and_left true b is = refl
-and_left false b is = is
-
-and_right : (a b : Bool) → (a && b) ≡ true → b ≡ true
-and_right true b is = is
-and_right false b is = absurd (let no : false ≡ true = is in cc)
-
 head_not : (size : Option ℕ) (terms : Terms) (at there : At) (flow other : Flow) (side : ℕ) (most : Option ℕ) (seen : Sight) →
     sequence (passes_by size terms there other (response_head side going_up) seen).stage ≡ busy at flow (request_body None most) → ⊥
 head_not None terms at there flow other side most seen is = let no : busy there other (response_head side going_up) ≡ busy at flow (request_body None most) = is in cc
@@ -140,16 +134,16 @@ up_not : (side : Option ℕ) (terms : Terms) (at : At) (flow other : Flow) (most
 up_not None terms at flow other most seen is = let no : busy at other (connection going_up) ≡ busy at flow (request_body None most) = is in cc
 up_not (Some side) terms at flow other most seen is = head_not (whole_in seen) terms at (unparked at) flow _ side most seen is
 
-begins_by : (begins : Bool) (terms : Terms) (at : At) (flow : Flow) (most : Option ℕ) (seen : Sight) → begins_going terms.place at flow most seen ≡ begins →
-    sequence (pass terms (busy at flow (request_body None most)) seen).stage ≡ busy at flow (request_body None most) → begins_going terms.place at flow most seen ≡ false
+begins_by : (begins : Bool) (terms : Terms) (at : At) (flow : Flow) (most : Option ℕ) (seen : Sight) → goes_up most seen ≡ begins →
+    sequence (pass terms (busy at flow (request_body None most)) seen).stage ≡ busy at flow (request_body None most) → goes_up most seen ≡ false
 begins_by false terms at flow most seen is settled = is
 begins_by true terms at flow most seen is settled =
-    let there = goes_up_here terms at flow most seen (and_left (goes_up most seen) _ is) (and_right (goes_up most seen) _ is) in
-    absurd (up_not (parked_for terms.place flow.request at.parked) terms at flow (sending_on flow) most seen (ap (λ (t : Turn Stage Command). sequence t.stage) (sym there) ∙ settled))
+    let there = goes_up_here terms at flow most seen is in
+    absurd (up_not (parked_for terms.place flow.request (unspoilt_at at seen).parked) terms at flow (sending_on flow) most seen (ap (λ (t : Turn Stage Command). sequence t.stage) (sym there) ∙ settled))
 
 pub begun_settled : (terms : Terms) (at : At) (flow : Flow) (most : Option ℕ) (seen : Sight) →
-    sequence (pass terms (busy at flow (request_body None most)) seen).stage ≡ busy at flow (request_body None most) → begins_going terms.place at flow most seen ≡ false
-begun_settled terms at flow most seen settled = begins_by (begins_going terms.place at flow most seen) terms at flow most seen refl settled
+    sequence (pass terms (busy at flow (request_body None most)) seen).stage ≡ busy at flow (request_body None most) → goes_up most seen ≡ false
+begun_settled terms at flow most seen settled = begins_by (goes_up most seen) terms at flow most seen refl settled
 
 -- ---- where nothing is found
 
@@ -317,9 +311,12 @@ module _ (terms : Terms) (events : List (Timed Event)) (all : List Command) (flo
         IsAt terms events all flows stage opened used up later sent left
     stage_more (idle at) b settled none =
         let seen = sight_of (side_parked at.parked) since opened used up prefix in
-        let fails = no_request terms at.flow (request_in seen) seen.now (server_parked at.parked seen) seen.closed (none_found seen.closed (leaving (idle at) seen) _ none) in
+        let there = unspoilt_at at seen in
+        let fails = no_request terms at.flow (request_in seen) seen.now (server_parked there.parked seen) seen.closed (none_found seen.closed (leaving (idle there) seen) _ none) in
         record {
           from = b.from;
+          waiting = b.waiting;
+          keeps = kept_on at.parked opened used.server b.waiting prefix later (front_append prefix (e ∷ [])) b.keeps;
           within = let so_many = b.within in let more = longer in omega arith;
           waits = waits_later (begun_over terms events all used.client) b.from b.waits
               (ap (λ (l : List ℕ). is_begun (request_item l)) (sym (same_client prefix (take (length prefix) events) (same_taken prefix events front) used.client)) ∙ fails);
@@ -327,16 +324,18 @@ module _ (terms : Terms) (events : List (Timed Event)) (all : List Command) (flo
         }
     stage_more (busy at flow (request_body None most)) b settled none =
         let seen = sight_of (side_parked at.parked) since opened used up prefix in
-        let start = start_of at opened used.client (parked_used at used) b.from left in
+        let there = unspoilt_at at seen in
+        let start = start_of at b.waiting used.client b.from left in
         let kept = begun_settled terms at flow most seen settled in
-        let undecided = no_body flow (request_in seen) (request_item (client_bytes events used.client)) b.head seen.now (server_parked at.parked seen) seen.closed b.there
-        (carried used.client prefix events front).stays (none_found seen.closed (leaves at flow (request_body None most) seen) _ none) in
+        let undecided = no_body flow (request_in seen) (request_item (client_bytes events used.client)) b.head seen.now (server_parked there.parked seen) seen.closed b.there
+        (carried used.client prefix events front).stays (none_found seen.closed (leaves there flow (request_body None most) seen) _ none) in
         record {
           from = b.from;
+          waiting = b.waiting;
+          keeps = kept_on at.parked opened used.server b.waiting prefix later (front_append prefix (e ∷ [])) b.keeps;
           within = let so_many = b.within in let more = longer in omega arith;
-          waits = waits_later (λ k. goes_on_over terms start flow.request most (take k events)) b.from b.waits
-              (sym (same_goes_on prefix (take (length prefix) events) (same_taken prefix events front) terms start flow.request most)
-              ∙ both_no _ _ undecided (goes_seen terms at flow most since opened used up b.from left prefix ∙ kept));
+          waits = waits_later (λ k. goes_on_over start most (take k events)) b.from b.waits
+              (sym (same_goes_on prefix (take (length prefix) events) (same_taken prefix events front) start most) ∙ both_no _ _ undecided kept);
           head = b.head;
           there = b.there;
           accepted = b.accepted;
@@ -354,7 +353,6 @@ module _ (terms : Terms) (events : List (Timed Event)) (all : List Command) (flo
         record {
           went = s.went;
           onward = onward_later how flow.request side s.went s.onward (ends_not how flow.request side s.went both.0 (ap is_ended nothing));
-          from = s.from;
           goes = goes_later how flow side s.went s.goes;
           calm = calm_later how flow.request side s.went open_client both.0 nothing;
           rest = s.rest;
@@ -367,7 +365,6 @@ module _ (terms : Terms) (events : List (Timed Event)) (all : List Command) (flo
         record {
           went = s.went;
           onward = onward_later how flow.request side s.went s.onward (ends_not how flow.request side s.went both.0 no);
-          from = s.from;
           goes = goes_later how flow side s.went s.goes;
           head = s.head;
           there = there_later how flow.request side s.went s.head s.there;
@@ -384,7 +381,6 @@ module _ (terms : Terms) (events : List (Timed Event)) (all : List Command) (flo
         record {
           went = s.went;
           onward = onward_later how flow.request side s.went s.onward (ends_not how flow.request side s.went both.0 no);
-          from = s.from;
           goes = goes_later how flow side s.went s.goes;
           head = s.head;
           there = there_later how flow.request side s.went s.head s.there;

@@ -6,6 +6,7 @@ use Rattle.std.proofs.lemmas.List.{append-nil, drop-drop}
 use Rattle.px_text.specs.Prefix.{IsPrefixOf}
 use Rattle.px_text.proofs.LeastLemmas.{least_same}
 use Rattle.px_message.specs.declared.flow.Flow.{Flow}
+use Rattle.px_message.specs.declared.request.Request.{Request}
 use Rattle.px_message.specs.declared.response.Response.{Response}
 use Rattle.px_event.specs.declared.command.Command.{Command}
 use Rattle.px_event.specs.declared.command.Command.TheVariants as commands
@@ -20,31 +21,32 @@ use Rattle.px_read.specs.declared.head.ResponseHead.{ResponseHead as ReadRespons
 use Rattle.px_exchange.specs.declared.ending.Used.TheVariants.{NoServer}
 use Rattle.px_exchange.specs.declared.asked.Judged.TheVariants.{Accepted}
 use Rattle.px_exchange.specs.declared.terms.Terms.{Terms}
-use Rattle.px_exchange.specs.Endings.{shut_server, shut_unless}
+use Rattle.px_exchange.specs.Endings.{read_persists, sent_persists, shut_server, shut_unless, unless_kept}
 use Rattle.px_exchange.specs.Finds.{is_relayed}
 use Rattle.px_exchange.specs.Flows.{response_of, with_end}
 use Rattle.px_exchange.specs.Requests.{is_head, judged}
-use Rattle.px_parts.specs.Streamed.{request_streams}
 use Rattle.px_parts.specs.Texts.{left_of}
-use Rattle.px_chain.specs.Chain.{behind_flow, begins_going, end_by, end_up, goes_to, goes_up_by, going_at, gone_by, is_silent, parked_for, pass, pass_came, pass_going, pass_kept, past_gone, reached, sequence, sight_ended, used_by_came, used_by_coming, used_by_end, used_by_gone, used_by_kept, used_by_pass}
+use Rattle.px_chain.specs.Chain.{behind_flow, end_by, end_up, goes_to, goes_up_by, going_at, gone_by, keeps_came, parked_for, pass, pass_came, pass_going, pass_kept, past_gone, reached, sequence, sight_ended, used_by_came, used_by_coming, used_by_end, used_by_gone, used_by_kept, used_by_pass, used_if}
 use Rattle.px_chain.specs.Coming.{Came, as_streamed, came_by, came_in, coming_by, coming_text, goes_on_behind, streaming, streams_by, streams_in}
 use Rattle.px_chain.specs.Going.{goes_up, is_sent, sending_on, sends_going, sends_up, whole_by, whole_in, with_whole}
-use Rattle.px_chain.specs.Sights.{Sight, UsedBytes, answers_in, server_in, sight_of, used_with}
+use Rattle.px_chain.specs.Keeping.{is_silent, keeps_side, parks, unspoilt_at}
+use Rattle.px_chain.specs.Sights.{Sight, UsedBytes, answers_in, left_by_answers, server_in, sight_of, used_by_answers, used_with}
 use Rattle.px_chain.specs.Stages.{At, Doing, Sent, Stage, all_sent, busy, coming_down, connection, given_body, given_head, going_up, idle, next, over, request_body, response_body, response_head, side_of, side_parked, unparked, upgraded}
 use Rattle.px_chain.proofs.ChainLaws.{passes_by}
 use Rattle.px_chain.specs.Streams.{Since, bytes_of}
 use Rattle.px_chain.proofs.GoingLaws.{going_text_stays}
 use Rattle.px_chain.proofs.UpLaws.{goes_up_here, stays_here}
-use Rattle.px_said.specs.ClosedForm.{first_flows, is_whole, request_items, said}
-use Rattle.px_said.specs.Lines.{Exchange, Start, Told, answers_to, client_bytes, comes_down, ends_at, ends_over, fault_in, fault_up, goes_on_at, goes_on_over, goes_on_streamed, goes_up_over, heard_of, is_ended, is_fault, is_quiet, is_sent_over, once_whole, said_down, said_next, said_request, said_to, said_way, sent_from, streamed_request, text_down, told_by, until, used_by}
+use Rattle.px_said.specs.ClosedForm.{Told, first_flows, is_whole, request_items, said, said_behind, told_by}
+use Rattle.px_said.specs.Lines.{Exchange, Start, answers_to, client_bytes, comes_down, ends_at, ends_over, fault_in, fault_up, goes_on_at, goes_on_over, goes_on_streamed, goes_up_over, heard_of, is_ended, is_fault, is_sent_over, once_whole, said_down, said_request, said_to, said_way, sent_from, side_over, streamed_request, text_down, until, used_by}
 use Rattle.px_said.proofs.ClosedFronts.{IsFront, IsSame, drop_on, front_length, least_at, same_taken, side_grows}
 use Rattle.px_said.proofs.ClosedItems.{after_on}
 use Rattle.px_said.proofs.ClosedQuiet.{said_join}
-use Rattle.px_said.proofs.LineFronts.{answers_on, comes_on, front_taken, front_until, same_ended, told_on}
+use Rattle.px_said.proofs.LineFronts.{answers_on, comes_on, front_until, same_ended, told_on}
+use Rattle.px_said.proofs.ParkedFronts.{front_taken}
 use Rattle.px_said.proofs.LineQuiet.{AllSends, Rest, SaysEnd, closes_both, done_said, end_behind, rest_is, rest_on, rest_said, sends_keep, server_closes, unless_closes}
-use Rattle.px_said.proofs.LineSeen.{carried, ended_here, goes_seen, same_down, same_goes_up, same_text, silent_missing}
-use Rattle.px_said.proofs.LineTurns.{parked_there}
-use Rattle.px_said.proofs.LineStages.{Answering, Begun, Coming, Down, GoesUp, IsAt, IsPlain, Onward, Returning, after_kept, after_streamed, answers_left, bytes_behind, coming_left, down_of, down_over, ended_by, exchange_of, further_after, further_behind, further_of, heard_by, next_of, parked_used, response_left, start_of, text_of, text_over, up_left}
+use Rattle.px_said.proofs.LineSeen.{carried, ended_here, same_down, same_goes_up, same_text, silent_missing}
+use Rattle.px_said.proofs.LineKept.{answers_there, behind_parks, kept_served, kept_side, kept_silent, server_kept, silent_behind, waits_behind}
+use Rattle.px_said.proofs.LineStages.{Answering, Begun, Coming, Down, GoesUp, IsAt, IsKept, IsPlain, Onward, Returning, Waiting, after_kept, after_streamed, answers_left, bytes_behind, coming_left, down_of, down_over, ended_by, exchange_of, further_after, further_behind, further_of, further_on, heard_by, next_of, response_left, start_of, text_of, text_over, up_left}
 
 -- ---- items
 
@@ -102,48 +104,70 @@ module _ (terms : Terms) (events : List (Timed Event)) (all : List Command) wher
 
   -- ---- behind a flow
 
-  -- the next request is awaited, or nothing more is said
-  pub by_stays : (more : ℕ) (stays : Bool) (at : At) (opened : ℕ) (used : UsedBytes) (server from up : ℕ) (prefix : List (Timed Event)) (sent : List Command) (left : List Reply) →
-      Rest all sent (said_next stays (start_of (unparked at) opened used.client 0 from left) (Some (length prefix)) (further_behind terms events all (suc more) used.client)) →
-      IsAt terms events all more (sequence (behind_flow stays (unparked at))) opened (record { client = used.client; server = server }) up prefix sent left
-  by_stays more true at opened used server from up prefix sent left is = record {
-    from = length prefix;
-    within = omega arith;
-    waits = λ k low high. absurd (omega arith);
-    rest = is;
-  }
-  by_stays more false at opened used server from up prefix sent left is = record { is_all = is }
+  module _ (at : At) (asked : Request) (side opened : ℕ) (used : UsedBytes) (waiting : Waiting) (prefix : List (Timed Event)) (left : List Reply) where
+    -- where the next request stands
+    abbrev pub next_there : ℕ → ℕ → Start
+    next_there bytes ended = start_of (record at { flow = at.flow + 1 }) waiting bytes ended left
 
-  -- and behind the last one nothing
-  pub by_last : (stays : Bool) (start : Start) (come bytes : ℕ) (sent : List Command) →
-      Rest all sent (said_next stays start (Some come) (further_behind terms events all 0 bytes)) → Rest all sent []
-  by_last true start come bytes sent is = is
-  by_last false start come bytes sent is = is
+    -- the stage, where the side is kept or not, and so many of its bytes are used
+    abbrev pub Stays : (more : ℕ) (stays kept : Bool) (server up : ℕ) → List Command → Type 0
+    Stays more stays kept server up sent =
+        IsAt terms events all more (sequence (behind_flow stays (parks kept terms.place at asked side))) opened (record { client = used.client; server = server }) up prefix sent left
 
-  -- so it is behind a request that was sent, and behind one that was not whole nothing more is said
-  pub behind_more : (how : Sent) (more : ℕ) (keeps : Bool) (at : At) (opened : ℕ) (used : UsedBytes) (server from up : ℕ) (prefix : List (Timed Event)) (sent : List Command) (left : List Reply) →
-      Rest all sent (said_next (is_sent how && keeps) (start_of (unparked at) opened (bytes_behind terms events all how used.client) 0 from left) (Some (length prefix))
-      (further_of terms events all how (suc more) used.client)) →
-      IsAt terms events all more (sequence (behind_flow (is_sent how && keeps) (unparked at))) opened (record { client = used.client; server = server }) up prefix sent left
-  behind_more all_sent more keeps at opened used server from up prefix sent left is = by_stays more keeps at opened used server from up prefix sent left is
-  behind_more going_up more keeps at opened used server from up prefix sent left is = record { is_all = is }
+    abbrev pub Keeps : (kept : Bool) (server : ℕ) → Type 0
+    Keeps kept server = IsKept (parks kept terms.place at asked side).parked opened server waiting prefix
 
-  pub behind_last : (how : Sent) (keeps : Bool) (start : Start) (come bytes : ℕ) (sent : List Command) →
-      Rest all sent (said_next (is_sent how && keeps) start (Some come) (further_of terms events all how 0 bytes)) → Rest all sent []
-  behind_last all_sent keeps start come bytes sent is = by_last keeps start come bytes sent is
-  behind_last going_up keeps start come bytes sent is = is
+    -- the next request is awaited, or nothing more is said
+    by_stays : (more : ℕ) (stays kept : Bool) (server up : ℕ) (sent : List Command) → (stays ≡ true → Keeps kept server) →
+        Rest all sent (said_behind stays (Some (length prefix)) (λ ended. further_behind terms events all (suc more) used.client (next_there used.client ended))) → Stays more stays kept server up sent
+    by_stays more true true server up sent keeps is = record {
+      from = length prefix;
+      waiting = waiting;
+      keeps = keeps refl;
+      within = omega arith;
+      waits = λ k low high. absurd (omega arith);
+      rest = is;
+    }
+    by_stays more true false server up sent keeps is = record {
+      from = length prefix;
+      waiting = waiting;
+      keeps = keeps refl;
+      within = omega arith;
+      waits = λ k low high. absurd (omega arith);
+      rest = is;
+    }
+    by_stays more false kept server up sent keeps is = record { is_all = is }
 
-  passed_ending : (flows : ℕ) (how : Sent) (keeps : Bool) (at : At) (opened : ℕ) (used : UsedBytes) (server from up : ℕ) (prefix : List (Timed Event)) (sent owed texts : List Command) (left : List Reply) →
-      SaysEnd owed texts →
-      Rest all (sent ++ owed) (said_next (is_sent how && keeps) (start_of (unparked at) opened (bytes_behind terms events all how used.client) 0 from left) (Some (length prefix))
-      (further_of terms events all how flows used.client)) →
-      Passed flows (record { owed = owed; stage = behind_flow (is_sent how && keeps) (unparked at) }) opened (record { client = used.client; server = server }) up prefix sent left
-  passed_ending zero how keeps at opened used server from up prefix sent owed texts left says is =
-      let ended = behind_last how keeps (start_of (unparked at) opened (bytes_behind terms events all how used.client) 0 from left) (length prefix) used.client (sent ++ owed) is in
-      passed_over (λ rest. rest_said all (sent ++ owed) (sent ++ first_flows 1 (owed ++ rest)) []
-      (said_join sent owed ∙ (ap (λ l. said sent ++ l) (says.is ∙ sym (says.last rest)) ∙ sym (said_join sent (first_flows 1 (owed ++ rest))))) ended)
-  passed_ending (suc more) how keeps at opened used server from up prefix sent owed texts left says is =
-      passed_on more (behind_more how more keeps at opened used server from up prefix (sent ++ owed) left is) (says.keeps more)
+    -- and behind the last one nothing
+    by_last : (stays : Bool) (come : ℕ) (sent : List Command) →
+        Rest all sent (said_behind stays (Some come) (λ ended. further_behind terms events all 0 used.client (next_there used.client ended))) → Rest all sent []
+    by_last true come sent is = is
+    by_last false come sent is = is
+
+    -- so it is behind a request that was sent, and behind one that was not whole nothing more is said
+    pub behind_more : (how : Sent) (more : ℕ) (keeps kept : Bool) (server up : ℕ) (sent : List Command) → ((is_sent how && keeps) ≡ true → Keeps kept server) →
+        Rest all sent (said_behind (is_sent how && keeps) (Some (length prefix))
+        (λ ended. further_of terms events all how (suc more) used.client (next_there (bytes_behind terms events all how used.client) ended))) →
+        Stays more (is_sent how && keeps) kept server up sent
+    behind_more all_sent more keeps kept server up sent so is = by_stays more keeps kept server up sent so is
+    behind_more going_up more keeps kept server up sent so is = record { is_all = is }
+
+    pub behind_last : (how : Sent) (keeps : Bool) (come : ℕ) (sent : List Command) →
+        Rest all sent (said_behind (is_sent how && keeps) (Some come) (λ ended. further_of terms events all how 0 used.client (next_there (bytes_behind terms events all how used.client) ended))) →
+        Rest all sent []
+    behind_last all_sent keeps come sent is = by_last keeps come sent is
+    behind_last going_up keeps come sent is = is
+
+    passed_ending : (flows : ℕ) (how : Sent) (keeps kept : Bool) (server up : ℕ) (sent owed texts : List Command) → SaysEnd owed texts → ((is_sent how && keeps) ≡ true → Keeps kept server) →
+        Rest all (sent ++ owed) (said_behind (is_sent how && keeps) (Some (length prefix))
+        (λ ended. further_of terms events all how flows used.client (next_there (bytes_behind terms events all how used.client) ended))) →
+        Passed flows (record { owed = owed; stage = behind_flow (is_sent how && keeps) (parks kept terms.place at asked side) }) opened (record { client = used.client; server = server }) up prefix sent left
+    passed_ending zero how keeps kept server up sent owed texts says so is =
+        let ended = behind_last how keeps (length prefix) (sent ++ owed) is in
+        passed_over (λ rest. rest_said all (sent ++ owed) (sent ++ first_flows 1 (owed ++ rest)) []
+        (said_join sent owed ∙ (ap (λ l. said sent ++ l) (says.is ∙ sym (says.last rest)) ∙ sym (said_join sent (first_flows 1 (owed ++ rest))))) ended)
+    passed_ending (suc more) how keeps kept server up sent owed texts says so is =
+        passed_on more (behind_more how more keeps kept server up (sent ++ owed) so is) (says.keeps more)
 
   module _ (flows : ℕ) (prefix : List (Timed Event)) (front : IsFront prefix events) where
     -- ---- a request that goes up is whole
@@ -166,7 +190,7 @@ module _ (terms : Terms) (events : List (Timed Event)) (all : List Command) wher
 
       alike : (k : ℕ) → went ≤ k → k < went + (length events + 1) → ends_over upward (take k events) ≡ ends_over sent_on (take k events)
       alike k low high = elim (leb_tells (length prefix) k) [
-        | inl more ↦ ap (λ i. is_fault (fault_in i) || is_ended (answers_to flow.request (heard_of upward (take k events))).final) (whole_over (take k events) (front_taken k prefix events front more.1))
+        | inl more ↦ ap (λ i. is_fault (fault_in i) || is_ended (answers_to flow.request (heard_of upward (take k events))).final) (whole_over (take k events) (front_taken prefix events k front more.1))
         | inr less ↦
             let none : ends_over upward (take k events) ≡ false = onward.waits k low less.1 in
             none ∙ sym (or_right (is_fault (fault_up upward (take k events))) _ none)
@@ -189,7 +213,7 @@ module _ (terms : Terms) (events : List (Timed Event)) (all : List Command) wher
           let further : further_after terms events all flows used.client ≡ further_behind terms events all flows (used.client + size) =
           ap (λ l. λ next. sent_from terms events next (take flows l)) (goes.plain.after head body trailers size everywhere) in
           let told : heard_of upward heard ≡ heard_of sent_on (until (ends_at events sent_on) events) = ap (λ e. heard_of upward (until e events)) ended_same in
-          λ i. record { told = told i; fault = fault i; sent = sent i; ended = ended_same i; bytes = bytes i; further = further i }
+          λ i. record { served = upward.served; told = told i; fault = fault i; sent = sent i; ended = ended_same i; bytes = bytes i; further = further i }
 
       text_same : text_of terms events all flows going_up flow.request side opened used went ≡ text_over terms events all flows going_up flow.request side opened used went prefix
       text_same =
@@ -223,14 +247,13 @@ module _ (terms : Terms) (events : List (Timed Event)) (all : List Command) wher
           (sent ++ commands.Send (Server side) (left_of up (text_over terms events all flows going_up flow.request side opened used went prefix)) ∷ []) left
       answering_whole at sent left now a same =
           let P : ℕ → Type 0 = λ n. Rest all sent (up_left going_up side up (text_of terms events all flows going_up flow.request side opened used n)
-          ++ answers_left terms (down_of terms events all flows going_up flow.request side opened used n) at opened a.from flow.request left) in
+          ++ answers_left terms (down_of terms events all flows going_up flow.request side opened used n) at flow.request left) in
           record {
             went = went;
             onward = onward_sent;
-            from = a.from;
             goes = tt;
             calm = inl refl;
-            rest = sends_rest sent (λ d. answers_left terms d at opened a.from flow.request left) (subst P same a.rest);
+            rest = sends_rest sent (λ d. answers_left terms d at flow.request left) (subst P same a.rest);
           }
 
       pub returning_whole : (at : At) (most : Option ℕ) (sent : List Command) (left : List Reply) (now : ℕ) →
@@ -239,17 +262,16 @@ module _ (terms : Terms) (events : List (Timed Event)) (all : List Command) wher
           (sent ++ commands.Send (Server side) (left_of up (text_over terms events all flows going_up flow.request side opened used went prefix)) ∷ []) left
       returning_whole at most sent left now r same =
           let P : ℕ → Type 0 = λ n. Rest all sent (up_left going_up side up (text_of terms events all flows going_up flow.request side opened used n)
-          ++ response_left (down_of terms events all flows going_up flow.request side opened used n) at opened r.from flow.request left most) in
+          ++ response_left terms (down_of terms events all flows going_up flow.request side opened used n) at flow.request left most) in
           record {
             went = went;
             onward = onward_sent;
-            from = r.from;
             goes = tt;
             head = r.head;
             there = r.there;
             relayed = r.relayed;
             response = r.response;
-            rest = sends_rest sent (λ d. response_left d at opened r.from flow.request left most) (subst P same r.rest);
+            rest = sends_rest sent (λ d. response_left terms d at flow.request left most) (subst P same r.rest);
           }
 
       pub coming_whole : (at : At) (sent : List Command) (left : List Reply) (now : ℕ) → (c : Coming terms events all flows going_up at flow side opened used up prefix sent left) → c.went ≡ went →
@@ -257,17 +279,16 @@ module _ (terms : Terms) (events : List (Timed Event)) (all : List Command) wher
           (sent ++ commands.Send (Server side) (left_of up (text_over terms events all flows going_up flow.request side opened used went prefix)) ∷ []) left
       coming_whole at sent left now c same =
           let P : ℕ → Type 0 = λ n. Rest all sent (up_left going_up side up (text_of terms events all flows going_up flow.request side opened used n)
-          ++ coming_left (down_of terms events all flows going_up flow.request side opened used n) at opened c.from flow.request left c.head) in
+          ++ coming_left terms (down_of terms events all flows going_up flow.request side opened used n) at flow.request left c.head) in
           record {
             went = went;
             onward = onward_sent;
-            from = c.from;
             goes = tt;
             head = c.head;
             there = c.there;
             relayed = c.relayed;
             response = c.response;
-            rest = sends_rest sent (λ d. coming_left d at opened c.from flow.request left c.head) (subst P same c.rest);
+            rest = sends_rest sent (λ d. coming_left terms d at flow.request left c.head) (subst P same c.rest);
           }
 
     -- ---- a response comes down
@@ -306,17 +327,16 @@ module _ (terms : Terms) (events : List (Timed Event)) (all : List Command) wher
           let now_comes : comes_down most asked_head told (Some r.head) ≡ true = both_are (is_relayed r.head.code) _ r.relayed one in
           let comes_so : comes_down most asked_head later (Some r.head) ≡ true = comes_on most asked_head told later r.head on carry begun now_comes in
           let down = down_of terms events all flows how flow.request side opened used r.went in
-          let kept = after_kept down at opened r.from flow.request left in
-          let streamed = after_streamed down at opened r.from flow.request left in
+          let kept = after_kept terms down at flow.request left in
+          let streamed = after_streamed terms down at flow.request left in
           let final = (answers_to flow.request later).final in
-          let is : response_left down at opened r.from flow.request left most ≡ coming_left down at opened r.from flow.request left r.head =
+          let is : response_left terms down at flow.request left most ≡ coming_left terms down at flow.request left r.head =
           ap (λ o. said_down (comes_down most asked_head later o) flow.request later final down.fault streamed kept) there
           ∙ (ap (λ b. said_down b flow.request later final down.fault streamed kept) comes_so
           ∙ ap (λ o. commands.Send Client (text_down flow.request later o) ∷ once_whole final streamed) there) in
           record {
             went = r.went;
             onward = r.onward;
-            from = r.from;
             goes = r.goes;
             head = r.head;
             there = r.there;
@@ -371,9 +391,23 @@ module _ (terms : Terms) (events : List (Timed Event)) (all : List Command) wher
       came_there flow went came (Some response) (bad_head fault) is final came_is = absurd (let no : None ≡ Some came = came_is in cc)
       came_there flow went came (Some response) (bad_body fault head body) is final came_is = absurd (let no : None ≡ Some came = came_is in cc)
 
+      -- whether its side is kept, and how many of its bytes are used then
+      keeps_seen : (flow : Flow) (went : ℕ) (head : ReadResponse) → Sees flow went →
+          keeps_side flow.request seen head
+          ≡ (silent_behind terms.place flow.request side opened used.server prefix && (sent_persists flow.request && read_persists flow.request head))
+      keeps_seen flow went head sees =
+          let told = told_by prefix side opened used.server in
+          let both = sent_persists flow.request && read_persists flow.request head in
+          ap (λ b. is_silent (left_by_answers (answers_to flow.request (record { bytes = b; shut = seen.shut })) b) seen.shut && both) sees.server
+          ∙ ap (λ s. is_silent (left_by_answers (answers_to flow.request (record { bytes = told.bytes; shut = s })) told.bytes) s && both) sees.shut
+
+      used_so : (kept : Bool) (flow : Flow) → used_if kept flow seen used ≡ record used { server = server_kept kept (used_by_answers (answers_in flow.request seen) used.server) }
+      used_so true flow = refl
+      used_so false flow = refl
+
       -- it ends its flow
       came_passed : (flow : Flow) (came : Came) → (c : Coming terms events all flows how at flow side opened used up prefix sent left) → Sees flow c.went → CameThere flow c.went came →
-          Passed flows (pass_came terms.place at flow side how seen (Some came)) opened (used_by_came (Some came) used) up prefix sent left
+          Passed flows (pass_came terms.place at flow side how seen (Some came)) opened (used_by_came at flow how seen (Some came) used) up prefix sent left
       came_passed flow came c sees there =
           let exchange = exchange_of how flow.request side opened used c.went in
           let told = heard_of exchange prefix in
@@ -393,40 +427,50 @@ module _ (terms : Terms) (events : List (Timed Event)) (all : List Command) wher
           let heads : came.head ≡ c.head = cc in
           let response_same : Some came.response ≡ Some (record (response_of c.head) { streamed = true }) = sym there.response ∙ c.response in
           let responses : came.response ≡ record (response_of c.head) { streamed = true } = some_same came.response _ response_same in
-          let start = next_of now_down at opened c.from left in
+          let start = next_of now_down at left in
           let keeps : Bool = goes_on_behind at.flow flow.request came in
           let stays : Bool = is_sent how && keeps in
-          let further = further_of terms events all how flows used.client in
+          let kept : Bool = keeps_came at flow how seen came in
+          let on : ℕ → List Command = further_on terms now_down flow.request start in
+          let served = unless_kept kept (server_in side seen) in
           let first = sends_up terms.place flow side how seen in
           let text : List Command = commands.Send Client (coming_text flow seen) ∷ [] in
-          let closes : List Command = shut_server (server_in side seen) ++ shut_unless stays NoServer seen.closed in
+          let closes : List Command = shut_server served ++ shut_unless stays NoServer seen.closed in
           let owed : List Command = commands.Send Client (coming_text flow seen) ∷ commands.Done (with_end flow seen.now) ∷ closes in
           let says = end_behind first owed text (sends_sent terms flow side how seen)
           (done_said Client (coming_text flow seen) (with_end flow seen.now) closes
-          (closes_both (shut_server (server_in side seen)) (shut_unless stays NoServer seen.closed) (server_closes (server_in side seen)) (unless_closes stays NoServer seen.closed))) in
+          (closes_both (shut_server served) (shut_unless stays NoServer seen.closed) (server_closes served) (unless_closes stays NoServer seen.closed))) in
           let same_keeps : keeps ≡ goes_on_streamed start flow.request came.head =
           ap (λ (r : Response). goes_on_behind at.flow flow.request (record { response = r; head = came.head })) responses
           ∙ ap (λ (h : ReadResponse). goes_on_behind at.flow flow.request (record { response = record (response_of h) { streamed = true }; head = came.head })) (sym heads) in
           let goes_so : (now_down.sent && goes_on_streamed start flow.request came.head) ≡ stays =
           ap (λ b. b && goes_on_streamed start flow.request came.head) (sym sees.sents) ∙ ap (λ b. is_sent how && b) (sym same_keeps) in
-          let behind_it : once_whole final (after_streamed now_down at opened c.from flow.request left) ≡ said_next stays start (Some come) further =
-          ap (λ i. once_whole i (after_streamed now_down at opened c.from flow.request left)) there.final
-          ∙ ap (λ b. said_next b start (Some come) further) goes_so in
+          let behind_it : once_whole final (after_streamed terms now_down at flow.request left) ≡ said_behind stays (Some come) on =
+          ap (λ i. once_whole i (after_streamed terms now_down at flow.request left)) there.final
+          ∙ ap (λ b. said_behind b (Some come) on) goes_so in
           let before_is : up_left how side up (text_of terms events all flows how flow.request side opened used c.went)
-          ++ coming_left (down_of terms events all flows how flow.request side opened used c.went) at opened c.from flow.request left c.head
-          ≡ (first ++ text) ++ said_next stays start (Some come) further =
-          ap (λ t. up_left how side up t ++ coming_left (down_of terms events all flows how flow.request side opened used c.went) at opened c.from flow.request left c.head) text_is
-          ∙ (ap (λ d. up_left how side up (text_over terms events all flows how flow.request side opened used c.went prefix) ++ coming_left d at opened c.from flow.request left c.head) down_is
-          ∙ (ap (λ l. l ++ coming_left now_down at opened c.from flow.request left c.head) (sym sees.ups)
-          ∙ (ap (λ t. first ++ (commands.Send Client t ∷ once_whole final (after_streamed now_down at opened c.from flow.request left))) (sym (text_seen flow c sees))
+          ++ coming_left terms (down_of terms events all flows how flow.request side opened used c.went) at flow.request left c.head
+          ≡ (first ++ text) ++ said_behind stays (Some come) on =
+          ap (λ t. up_left how side up t ++ coming_left terms (down_of terms events all flows how flow.request side opened used c.went) at flow.request left c.head) text_is
+          ∙ (ap (λ d. up_left how side up (text_over terms events all flows how flow.request side opened used c.went prefix) ++ coming_left terms d at flow.request left c.head) down_is
+          ∙ (ap (λ l. l ++ coming_left terms now_down at flow.request left c.head) (sym sees.ups)
+          ∙ (ap (λ t. first ++ (commands.Send Client t ∷ once_whole final (after_streamed terms now_down at flow.request left))) (sym (text_seen flow c sees))
           ∙ (ap (λ l. first ++ (commands.Send Client (coming_text flow seen) ∷ l)) behind_it
-          ∙ sym (append_assoc first text (said_next stays start (Some come) further)))))) in
-          passed_ending flows how keeps at opened used 0 c.from up prefix sent (first ++ owed) (first ++ text) left says
-          (rest_on all sent (first ++ owed) (first ++ text) _ (said_next stays start (Some come) further) c.rest says.is before_is)
+          ∙ sym (append_assoc first text (said_behind stays (Some come) on)))))) in
+          let whole = answers_there terms.place flow.request side opened used.server prefix in
+          let server = server_kept kept (used_by_answers whole used.server) in
+          let used_is : used_if kept flow seen used ≡ record used { server = server } =
+          used_so kept flow ∙ ap (λ (a : Answers). record used { server = server_kept kept (used_by_answers a used.server) }) (told_seen flow c.went sees) in
+          let P : UsedBytes → Type 0 = λ u. Passed flows (pass_came terms.place at flow side how seen (Some came)) opened u up prefix sent left in
+          subst P (sym used_is)
+          (passed_ending at flow.request side opened used (waits_behind terms.place flow.request side opened used.server prefix) prefix left flows how keeps kept server up sent (first ++ owed) (first ++ text) says
+          (λ so. behind_parks terms.place flow.request side opened used.server prefix came.head there.body there.trailers there.size there.final at kept
+          (sym (ap (λ b. b && keeps_side flow.request seen came.head) so ∙ keeps_seen flow c.went came.head sees)))
+          (rest_on all sent (first ++ owed) (first ++ text) _ (said_behind stays (Some come) on) c.rest says.is before_is))
 
       -- or it goes on
       pub coming_passed : (flow : Flow) → (c : Coming terms events all flows how at flow side opened used up prefix sent left) → Sees flow c.went → (came : Option Came) → came_in flow seen ≡ came →
-          Passed flows (pass_came terms.place at flow side how seen came) opened (used_by_came came used) up prefix sent left
+          Passed flows (pass_came terms.place at flow side how seen came) opened (used_by_came at flow how seen came used) up prefix sent left
       coming_passed flow c sees None is = stays_there flows (busy at flow (coming_down side how)) opened used up prefix sent left refl c
       coming_passed flow c sees (Some came) is =
           came_passed flow came c sees
@@ -440,7 +484,7 @@ module _ (terms : Terms) (events : List (Timed Event)) (all : List Command) wher
       -- one that is not streamed is kept
       pub body_passed : (flow : Flow) (most : Option ℕ) → (r : Returning terms events all flows how at flow most side opened used up prefix sent left) → Sees flow r.went →
           (streams : Bool) → streams_in flow most seen ≡ streams →
-          Passed flows (pass_kept streams terms.place at flow side how most seen) opened (used_by_kept streams (came_in (streaming flow) seen) used) up prefix sent left
+          Passed flows (pass_kept streams terms.place at flow side how most seen) opened (used_by_kept streams at (streaming flow) how seen (came_in (streaming flow) seen) used) up prefix sent left
       body_passed flow most r sees true is =
           coming_passed (streaming flow) (to_coming flow most r sees is)
           (record { server = sees.server; shut = sees.shut; ups = ups_streaming flow how ∙ sees.ups; sents = sees.sents }) (came_in (streaming flow) seen) refl
@@ -449,12 +493,12 @@ module _ (terms : Terms) (events : List (Timed Event)) (all : List Command) wher
     -- ---- a request begins to go up
 
     module _ (at : At) (flow : Flow) (most : Option ℕ) (opened : ℕ) (used : UsedBytes) (up : ℕ) (sent : List Command) (left : List Reply) (since : Since)
-        (b : Begun terms events all flows at flow.request most opened used.client (parked_used at used) up prefix sent left) where
+        (b : Begun terms events all flows at flow.request most opened used up prefix sent left) where
       abbrev here_seen : Sight
       here_seen = sight_of (side_parked at.parked) since opened used up prefix
 
       abbrev start : Start
-      start = start_of at opened used.client (parked_used at used) b.from left
+      start = start_of at b.waiting used.client b.from left
 
       -- behind a request that is no CONNECT
       is_plain : IsPlain terms events all used.client
@@ -467,70 +511,69 @@ module _ (terms : Terms) (events : List (Timed Event)) (all : List Command) wher
             ∙ ap (λ l. request_items l) (drop-drop size used.client (bytes_of Client events));
       }
 
-      module _ (begins : begins_going terms.place at flow most here_seen ≡ true) where
-        begins_so : goes_up_over terms start flow.request most prefix ≡ true
-        begins_so = goes_seen terms at flow most since opened used up b.from left prefix ∙ begins
+      module _ (begins : goes_up most here_seen ≡ true) where
+        -- the side that it goes to
+        abbrev side_there : Option ℕ
+        side_there = parked_for terms.place flow.request (unspoilt_at at here_seen).parked
 
         -- what is left is said of a request that is streamed
-        rest_up : Rest all sent (said_to terms events (start_of at opened (bytes_behind terms events all going_up used.client) (parked_used at used) b.from left) (Some used.client)
-            (streamed_request flow.request) (length prefix) (parked_for terms.place flow.request at.parked) (further_after terms events all flows used.client))
+        rest_up : Rest all sent (said_to terms events (start_of at b.waiting (bytes_behind terms events all going_up used.client) b.from left) (Some used.client)
+            (streamed_request flow.request) (length prefix) side_there (further_after terms events all flows used.client))
         rest_up =
             let come = length prefix in
             let taken = take come events in
             let alike = same_taken prefix events front in
-            let way : goes_up_over terms start flow.request most taken ≡ true = sym (same_goes_up prefix taken alike terms start flow.request most) ∙ begins_so in
-            let test : goes_on_over terms start flow.request most taken ≡ true =
+            let way : goes_up_over start most taken ≡ true = sym (same_goes_up prefix taken alike start most) ∙ begins in
+            let test : goes_on_over start most taken ≡ true =
             ap (λ u. is_decided (request_item (client_bytes taken used.client)) || u) way ∙ or_true (is_decided (request_item (client_bytes taken used.client))) in
-            let found : goes_on_at terms events start flow.request most ≡ Some come =
-            least_at (λ k. goes_on_over terms start flow.request most (take k events)) b.from come (length events) b.within (front_length prefix events front) b.waits test in
+            let found : goes_on_at events start most ≡ Some come =
+            least_at (λ k. goes_on_over start most (take k events)) b.from come (length events) b.within (front_length prefix events front) b.waits test in
             let item = request_item (client_bytes events used.client) in
             let F = further_after terms events all flows used.client in
+            let to : side_over terms.place start flow.request taken ≡ side_there =
+            kept_side at.parked since opened used up prefix b.waiting terms.place at flow.request used.client b.from left taken alike b.keeps in
             rest_is all sent _ _ b.rest
             (ap (λ o. said_request terms events start flow.request most item o F) found
-            ∙ ap (λ w. said_way w terms events start flow.request item come F) way)
+            ∙ (ap (λ w. said_way w terms events start flow.request item come F) way
+            ∙ ap (λ o. said_to terms events (start_of at b.waiting (bytes_behind terms events all going_up used.client) b.from left) (Some used.client)
+            (streamed_request flow.request) come o F) to))
 
-        begins_at : (side : Option ℕ) → parked_for terms.place flow.request at.parked ≡ side →
+        begins_at : (side : Option ℕ) → side_there ≡ side →
             IsAt terms events all flows (goes_up_by side terms.place at (sending_on flow)) opened used up prefix sent left
         begins_at None is = record {
           from = b.from;
+          waiting = b.waiting;
           plain = is_plain;
           untold = b.untold;
           rest = rest_is all sent _ _ rest_up
-              (ap (λ to. said_to terms events (start_of at opened (bytes_behind terms events all going_up used.client) (parked_used at used) b.from left) (Some used.client)
+              (ap (λ to. said_to terms events (start_of at b.waiting (bytes_behind terms events all going_up used.client) b.from left) (Some used.client)
               (streamed_request flow.request) (length prefix) to (further_after terms events all flows used.client)) is);
         }
         begins_at (Some server) is =
-            let same : parked_used at used ≡ used.server = parked_there terms.place flow.request at.parked used.server server is in
+            let same = kept_served at.parked since opened used up prefix b.waiting terms.place flow.request server b.keeps is in
             let asked = streamed_request flow.request in
             let come = length prefix in
             let with_used : ℕ → UsedBytes = λ n. record { client = used.client; server = n } in
-            let left_with : ℕ → List Command = λ n.
-            commands.Send (Server server) (text_of terms events all flows going_up asked server opened (with_used n) come)
-            ∷ answers_left terms (down_of terms events all flows going_up asked server opened (with_used n) come) (unparked at) opened b.from asked left in
-            let quiet : is_quiet prefix start (Some server) ≡ true =
-            and_right (request_streams most (client_bytes prefix used.client)) _
-            (ap (λ to. request_streams most (client_bytes prefix used.client) && is_quiet prefix start to) (sym is) ∙ begins_so) in
-            let Q : ℕ → Type 0 = λ n. is_silent (told_by prefix server opened n).bytes (told_by prefix server opened n).shut ≡ true in
+            let left_with : ℕ → ℕ → List Command = λ o n.
+            commands.Send (Server server) (text_of terms events all flows going_up asked server o (with_used n) come)
+            ∷ answers_left terms (down_of terms events all flows going_up asked server o (with_used n) come) (unparked at) asked left in
             record {
               went = come;
               onward = record {
                 within = omega arith;
                 waits = λ k low high. absurd (omega arith);
               };
-              from = b.from;
               goes = record { told = let zero_up = b.untold in omega arith; plain = is_plain };
-              calm = inr (silent_missing asked (told_by prefix server opened used.server) (subst Q same quiet));
+              calm = inr (silent_missing asked (told_by prefix server opened used.server)
+                  (kept_silent at.parked since opened used up prefix terms.place flow.request server is));
               rest = rest_is all sent _ _ rest_up
-                  (ap (λ to. said_to terms events (start_of at opened (bytes_behind terms events all going_up used.client) (parked_used at used) b.from left) (Some used.client)
+                  (ap (λ to. said_to terms events (start_of at b.waiting (bytes_behind terms events all going_up used.client) b.from left) (Some used.client)
                   asked come to (further_after terms events all flows used.client)) is
-                  ∙ (ap left_with same
+                  ∙ (ap (λ o. left_with o b.waiting.used) same.0
+                  ∙ (ap (λ n. left_with opened n) same.1
                   ∙ ap (λ n. commands.Send (Server server) (left_of n (text_of terms events all flows going_up asked server opened used come))
-                  ∷ answers_left terms (down_of terms events all flows going_up asked server opened used come) (unparked at) opened b.from asked left) (sym b.untold)));
+                  ∷ answers_left terms (down_of terms events all flows going_up asked server opened used come) (unparked at) asked left) (sym b.untold))));
             }
-          where
-            and_right : (a b : Bool) → (a && b) ≡ true → b ≡ true
-            and_right true b is = is
-            and_right false b is = absurd (let no : false ≡ true = is in cc)
 
     -- ---- where it passes
 
@@ -605,7 +648,7 @@ module _ (terms : Terms) (events : List (Timed Event)) (all : List Command) wher
           let streams = streams_in whole most past_seen in
           let more = sends told_here.bytes told_here.shut in
           let turned = pass_kept streams terms.place at whole side all_sent most past_seen in
-          let P : ℕ → Type 0 = λ n. Passed flows turned opened (used_by_kept streams (came_in (streaming whole) past_seen) (record used { client = n })) up prefix (sent ++ more) left in
+          let P : ℕ → Type 0 = λ n. Passed flows turned opened (used_by_kept streams at (streaming whole) all_sent past_seen (came_in (streaming whole) past_seen) (record used { client = n })) up prefix (sent ++ more) left in
           passed_behind flows more turned opened (uses_by (Some size) at flow (response_body side going_up most) there_seen used) up prefix sent left tt
           (subst P (sym (uses_past size w))
           (body_passed all_sent at side opened (record used { client = used.client + size }) up (sent ++ more) left past_seen whole most went_on
@@ -624,7 +667,7 @@ module _ (terms : Terms) (events : List (Timed Event)) (all : List Command) wher
           let came = came_in whole past_seen in
           let more = sends told_here.bytes told_here.shut in
           let turned = pass_came terms.place at whole side all_sent past_seen came in
-          let P : ℕ → Type 0 = λ n. Passed flows turned opened (used_by_came came (record used { client = n })) up prefix (sent ++ more) left in
+          let P : ℕ → Type 0 = λ n. Passed flows turned opened (used_by_came at whole all_sent past_seen came (record used { client = n })) up prefix (sent ++ more) left in
           passed_behind flows more turned opened (uses_by (Some size) at flow (coming_down side going_up) there_seen used) up prefix sent left tt
           (subst P (sym (uses_past size w))
           (coming_passed all_sent at side opened (record used { client = used.client + size }) up (sent ++ more) left past_seen whole went_on
@@ -647,32 +690,23 @@ module _ (terms : Terms) (events : List (Timed Event)) (all : List Command) wher
           (head_up (unparked at) (reached terms.place flow) server opened used up sent left seen.closed seen.now seen.server seen.shut is
           (whole_by (request_item (client_bytes prefix used.client))) refl))
 
-      begun_passed : (at : At) (flow : Flow) (most : Option ℕ) → Begun terms events all flows at flow.request most opened used.client (parked_used at used) up prefix sent left → (begins : Bool) →
+      begun_passed : (at : At) (flow : Flow) (most : Option ℕ) → Begun terms events all flows at flow.request most opened used up prefix sent left → (begins : Bool) →
           let seen = sight_of (side_parked at.parked) since opened used up prefix in
           let stage = busy at flow (request_body None most) in
-          begins_going terms.place at flow most seen ≡ begins →
+          goes_up most seen ≡ begins →
           Passed flows (pass terms stage seen) opened (used_by_pass terms stage seen used) up prefix sent left
       begun_passed at flow most b true is =
           let seen = sight_of (side_parked at.parked) since opened used up prefix in
-          let to = parked_for terms.place flow.request at.parked in
+          let to = parked_for terms.place flow.request (unspoilt_at at seen).parked in
           let there = goes_up_by to terms.place at (sending_on flow) in
           let P : Turn Stage Command → UsedBytes → Type 0 = λ t u. Passed flows t opened u up prefix sent left in
-          let there_is : pass terms (busy at flow (request_body None most)) seen ≡ pass terms there seen =
-          goes_up_here terms at flow most seen (and_left (goes_up most seen) _ is) (and_right (goes_up most seen) _ is) in
+          let there_is : pass terms (busy at flow (request_body None most)) seen ≡ pass terms there seen = goes_up_here terms at flow most seen is in
           let uses : used_by_pass terms (busy at flow (request_body None most)) seen used ≡ used_by_pass terms there seen used =
-          ap (λ b. used_from (pass_going b terms.place at flow most) seen) is ∙ used_same to at (sending_on flow) seen in
+          ap (λ b. used_from (pass_going b terms.place at flow most seen) seen) is ∙ used_same to at (sending_on flow) seen in
           let one : P (pass terms there seen) (used_by_pass terms there seen used) =
           from_begun to at (sending_on flow) seen refl refl (begins_at at flow most opened used up sent left since b is to refl) in
           subst (λ t. P t (used_by_pass terms (busy at flow (request_body None most)) seen used)) (sym there_is) (subst (P (pass terms there seen)) (sym uses) one)
         where
-          and_left : (a b : Bool) → (a && b) ≡ true → a ≡ true
-          and_left true b is = refl
-          and_left false b is = is
-
-          and_right : (a b : Bool) → (a && b) ≡ true → b ≡ true
-          and_right true b is = is
-          and_right false b is = absurd (let no : false ≡ true = is in cc)
-
           used_from : Stage → Sight → UsedBytes
           used_from to seen = used_by_coming (end_up terms to seen).stage (sight_ended to seen) (used_by_end to seen used)
 
@@ -684,8 +718,9 @@ module _ (terms : Terms) (events : List (Timed Event)) (all : List Command) wher
           let stage = busy at flow (request_body None most) in
           let P : Turn Stage Command → UsedBytes → Type 0 = λ t u. Passed flows t opened u up prefix sent left in
           let stays = stays_here terms at flow most seen is in
-          let uses : used_by_pass terms stage seen used ≡ used = ap (λ b. used_by_coming (end_up terms (pass_going b terms.place at flow most) seen).stage (sight_ended (pass_going b terms.place at flow most) seen)
-          (used_by_end (pass_going b terms.place at flow most) seen used)) is in
+          let uses : used_by_pass terms stage seen used ≡ used =
+          ap (λ b. used_by_coming (end_up terms (pass_going b terms.place at flow most seen) seen).stage (sight_ended (pass_going b terms.place at flow most seen) seen)
+          (used_by_end (pass_going b terms.place at flow most seen) seen used)) is in
           subst (λ t. P t (used_by_pass terms stage seen used)) (sym stays) (subst (P (goes_to stage)) (sym uses) (stays_there flows stage opened used up prefix sent left refl b))
 
       pub stage_passed : (stage : Stage) → IsAt terms events all flows stage opened used up prefix sent left →
@@ -693,7 +728,7 @@ module _ (terms : Terms) (events : List (Timed Event)) (all : List Command) wher
           Passed flows (pass terms stage seen) opened (used_by_pass terms stage seen used) up prefix sent left
       stage_passed (idle at) is = stays_there flows (idle at) opened used up prefix sent left refl is
       stage_passed (busy at flow (request_body None most)) is =
-          begun_passed at flow most is (begins_going terms.place at flow most (sight_of (side_parked at.parked) since opened used up prefix)) refl
+          begun_passed at flow most is (goes_up most (sight_of (side_parked at.parked) since opened used up prefix)) refl
       stage_passed (busy at flow (request_body (Some response) most)) is = absurd is
       stage_passed (busy at flow (connection how)) is = stays_there flows (busy at flow (connection how)) opened used up prefix sent left refl is
       stage_passed (busy at flow (response_head side all_sent)) is = stays_there flows (busy at flow (response_head side all_sent)) opened used up prefix sent left refl is

@@ -1,5 +1,5 @@
 -- Commands that ask nothing, what replies that go on over any size are taken for, and what is left to be said in each view.
-use Rattle.std.proofs.Common.{◌≡◌, ℕ, suc, Bool, true, false, List, [], ◌∷◌, ◌++◌, Some, None, refl, ap, sym, ◌∙◌, append_assoc}
+use Rattle.std.proofs.Common.{◌≡◌, ℕ, suc, Bool, true, false, List, [], ◌∷◌, ◌++◌, Option, Some, None, refl, ap, sym, ◌∙◌, append_assoc}
 use Rattle.std.specs.Prelude.{⊤, map}
 use Rattle.px_text.specs.Prefix.{IsPrefixOf}
 use Rattle.px_message.specs.declared.flow.Flow.{Flow}
@@ -21,14 +21,15 @@ use Rattle.px_exchange.specs.Requests.{is_http11}
 use Rattle.px_exchange.specs.Texts.{interim_command, sends_on}
 use Rattle.px_exchange.specs.declared.taken.Taken.TheVariants as taken
 use Rattle.px_exchange.specs.declared.terms.Terms.{Terms}
-use Rattle.px_chain.specs.Chain.{so_far}
+use Rattle.px_chain.specs.Chain.{so_far, waits_at}
 use Rattle.px_chain.specs.Coming.{allowed_by, told_with}
 use Rattle.px_chain.specs.Going.{allowed_up_by}
+use Rattle.px_chain.specs.Keeping.{shut_by_byte, shut_stray, strays}
 use Rattle.px_chain.specs.Sights.{Sight, answers_in}
-use Rattle.px_chain.specs.Stages.{Stage, all_sent, busy, coming_down, connection, given_body, given_head, going_up, idle, next, over, request_body, response_body, response_head, upgraded}
+use Rattle.px_chain.specs.Stages.{Parked, Stage, all_sent, busy, coming_down, connection, given_body, given_head, going_up, idle, next, over, request_body, response_body, response_head, upgraded}
 use Rattle.px_said.specs.ClosedForm.{first_flows, said}
 use Rattle.px_said.specs.Lines.{AllGoOn, LeavesFlow}
-use Rattle.px_said.proofs.ClosedQuiet.{SaysLast, said_join, takes_request_body as took_request_body, takes_request_head as took_request_head, takes_response_body as took_response_body, takes_response_head as took_response_head}
+use Rattle.px_said.proofs.ClosedQuiet.{SaysLast, keep_both, said_join, says_strays, takes_request_body as took_request_body, takes_request_head as took_request_head, takes_response_body as took_response_body, takes_response_head as took_response_head}
 
 -- ---- no question
 
@@ -56,6 +57,23 @@ closes_none (commands.Send side text ∷ owed) is = absurd is
 closes_none (commands.Done flow ∷ owed) is = absurd is
 closes_none (commands.Ask asked flow ∷ owed) is = absurd is
 closes_none (commands.Dial server address inside ∷ owed) is = absurd is
+
+-- they say nothing
+closes_say : (closes : List Command) → OnlyCloses closes → said closes ≡ []
+closes_say [] is = refl
+closes_say (commands.Close side ∷ closes) is = closes_say closes is
+closes_say (commands.Send side text ∷ closes) is = absurd is
+closes_say (commands.Done flow ∷ closes) is = absurd is
+closes_say (commands.Ask asked flow ∷ closes) is = absurd is
+closes_say (commands.Dial server address inside ∷ closes) is = absurd is
+
+closes_keep : (closes : List Command) → OnlyCloses closes → (more : ℕ) (rest : List Command) → first_flows (suc more) (closes ++ rest) ≡ closes ++ first_flows (suc more) rest
+closes_keep [] is more rest = refl
+closes_keep (commands.Close side ∷ closes) is more rest = ap (λ l. commands.Close side ∷ l) (closes_keep closes is more rest)
+closes_keep (commands.Send side text ∷ closes) is more rest = absurd is
+closes_keep (commands.Done flow ∷ closes) is more rest = absurd is
+closes_keep (commands.Ask asked flow ∷ closes) is more rest = absurd is
+closes_keep (commands.Dial server address inside ∷ closes) is more rest = absurd is
 
 pub ends_none : (owed : List Command) → EndsInOrder owed → NoQuestion owed
 ends_none [] is = tt
@@ -113,22 +131,54 @@ pub interim_if : (knows : Bool) (heads : List ResponseHead) → AllSends (sends_
 interim_if true heads = interim_sends heads
 interim_if false heads = tt
 
--- what a stage owes while it waits
-pub so_far_sends : (terms : Terms) (stage : Stage) (seen : Sight) → AllSends (so_far terms stage seen)
-so_far_sends terms (idle at) seen = tt
-so_far_sends terms (busy at flow (request_body given most)) seen = tt
-so_far_sends terms (busy at flow (connection how)) seen = tt
-so_far_sends terms (busy at flow (response_head side all_sent)) seen = interim_if (is_http11 flow.request.version) (answers_in flow.request seen).interim
-so_far_sends terms (busy at flow (response_head side going_up)) seen = interim_if (is_http11 flow.request.version) (answers_in flow.request seen).interim
-so_far_sends terms (busy at flow (response_body side all_sent most)) seen = tt
-so_far_sends terms (busy at flow (response_body side going_up most)) seen = tt
-so_far_sends terms (busy at flow (coming_down side all_sent)) seen = tt
-so_far_sends terms (busy at flow (coming_down side going_up)) seen = tt
-so_far_sends terms (busy at flow (upgraded side)) seen = tt
-so_far_sends terms (busy at flow given_head) seen = tt
-so_far_sends terms (busy at flow given_body) seen = tt
-so_far_sends terms (next at) seen = tt
-so_far_sends terms over seen = tt
+-- what came of messages, which a stage owes while it waits
+pub waits_sends : (terms : Terms) (stage : Stage) (seen : Sight) → AllSends (waits_at terms stage seen)
+waits_sends terms (idle at) seen = tt
+waits_sends terms (busy at flow (request_body given most)) seen = tt
+waits_sends terms (busy at flow (connection how)) seen = tt
+waits_sends terms (busy at flow (response_head side all_sent)) seen = interim_if (is_http11 flow.request.version) (answers_in flow.request seen).interim
+waits_sends terms (busy at flow (response_head side going_up)) seen = interim_if (is_http11 flow.request.version) (answers_in flow.request seen).interim
+waits_sends terms (busy at flow (response_body side all_sent most)) seen = tt
+waits_sends terms (busy at flow (response_body side going_up most)) seen = tt
+waits_sends terms (busy at flow (coming_down side all_sent)) seen = tt
+waits_sends terms (busy at flow (coming_down side going_up)) seen = tt
+waits_sends terms (busy at flow (upgraded side)) seen = tt
+waits_sends terms (busy at flow given_head) seen = tt
+waits_sends terms (busy at flow given_body) seen = tt
+waits_sends terms (next at) seen = tt
+waits_sends terms over seen = tt
+
+-- ---- with the close of a parked side of which a byte came
+
+byte_closes : (server : ℕ) (bytes : List ℕ) → OnlyCloses (shut_by_byte server bytes)
+byte_closes server [] = tt
+byte_closes server (byte ∷ bytes) = tt
+
+stray_closes : (parked : Option Parked) (seen : Sight) → OnlyCloses (shut_stray parked seen)
+stray_closes None seen = tt
+stray_closes (Some parked) seen = byte_closes parked.server seen.server
+
+strays_closes : (stage : Stage) (seen : Sight) → OnlyCloses (strays stage seen)
+strays_closes (idle at) seen = stray_closes at.parked seen
+strays_closes (busy at flow (request_body given most)) seen = stray_closes at.parked seen
+strays_closes (busy at flow (connection how)) seen = stray_closes at.parked seen
+strays_closes (busy at flow (response_head side how)) seen = tt
+strays_closes (busy at flow (response_body side how most)) seen = tt
+strays_closes (busy at flow (coming_down side how)) seen = tt
+strays_closes (busy at flow (upgraded side)) seen = tt
+strays_closes (busy at flow given_head) seen = stray_closes at.parked seen
+strays_closes (busy at flow given_body) seen = stray_closes at.parked seen
+strays_closes (next at) seen = stray_closes at.parked seen
+strays_closes over seen = tt
+
+-- all that a stage owes so far asks nothing, and ends no flow
+pub so_far_none : (terms : Terms) (stage : Stage) (seen : Sight) → NoQuestion (so_far terms stage seen)
+so_far_none terms stage seen =
+    none_both (strays stage seen) (waits_at terms stage seen) (closes_none (strays stage seen) (strays_closes stage seen)) (sends_none (waits_at terms stage seen) (waits_sends terms stage seen))
+
+pub so_far_keeps : (terms : Terms) (stage : Stage) (seen : Sight) (more : ℕ) (rest : List Command) →
+    first_flows (suc more) (so_far terms stage seen ++ rest) ≡ so_far terms stage seen ++ first_flows (suc more) rest
+so_far_keeps terms stage seen = keep_both (strays stage seen) (waits_at terms stage seen) (says_strays stage seen).keeps (sends_keep (waits_at terms stage seen) (waits_sends terms stage seen))
 
 -- ---- replies
 
@@ -197,6 +247,11 @@ rest_on all sent more texts before left rest more_is before_is = record {
       ∙ ap (λ l. l ++ seen_of view left) (sym (ap (seen_of view) (said_join sent more) ∙ seen_append view (said sent) (said more))))));
 }
 
+-- behind commands that say nothing
+pub rest_behind : (all sent quiet more texts before left : List Command) → Rest all sent before → said quiet ≡ [] → said more ≡ texts → before ≡ texts ++ left → Rest all (sent ++ (quiet ++ more)) left
+rest_behind all sent quiet more texts before left rest none more_is before_is =
+    rest_on all sent (quiet ++ more) texts before left rest (said_join quiet more ∙ (ap (λ l. l ++ said more) none ∙ more_is)) before_is
+
 pub seen_front : (texts left : List Command) → IsPrefixOf texts left → (view : View) → IsPrefixOf (seen_of view texts) (seen_of view left)
 seen_front texts left (more, is) view = (seen_of view more, ap (seen_of view) is ∙ seen_append view texts more)
 
@@ -226,22 +281,6 @@ end_behind first owed texts sends says = record {
       ∙ (sends_keep first sends (suc more) (owed ++ rest)
       ∙ (ap (λ l. first ++ l) (says.keeps more rest) ∙ sym (append_assoc first owed (first_flows (suc more) rest))));
 }
-
-closes_say : (closes : List Command) → OnlyCloses closes → said closes ≡ []
-closes_say [] is = refl
-closes_say (commands.Close side ∷ closes) is = closes_say closes is
-closes_say (commands.Send side text ∷ closes) is = absurd is
-closes_say (commands.Done flow ∷ closes) is = absurd is
-closes_say (commands.Ask asked flow ∷ closes) is = absurd is
-closes_say (commands.Dial server address inside ∷ closes) is = absurd is
-
-closes_keep : (closes : List Command) → OnlyCloses closes → (more : ℕ) (rest : List Command) → first_flows (suc more) (closes ++ rest) ≡ closes ++ first_flows (suc more) rest
-closes_keep [] is more rest = refl
-closes_keep (commands.Close side ∷ closes) is more rest = ap (λ l. commands.Close side ∷ l) (closes_keep closes is more rest)
-closes_keep (commands.Send side text ∷ closes) is more rest = absurd is
-closes_keep (commands.Done flow ∷ closes) is more rest = absurd is
-closes_keep (commands.Ask asked flow ∷ closes) is more rest = absurd is
-closes_keep (commands.Dial server address inside ∷ closes) is more rest = absurd is
 
 -- a text, the flow, and closes
 pub done_said : (side : Side) (text : List ℕ) (flow : Flow) (closes : List Command) → OnlyCloses closes →

@@ -1,14 +1,12 @@
 -- What a stage sees over a prefix, in the terms of what is said; over the same events it is the same.
 use Rattle.std.proofs.Common.{◌≡◌, ℕ, Bool, true, false, List, [], ◌∷◌, ◌++◌, length, drop, Option, Some, None, refl, ap, sym, ◌∙◌, subst, inl, inr}
-use Rattle.std.specs.Prelude.{◌&&◌, ◌||◌, ◌⊎◌, is_some, take}
+use Rattle.std.specs.Prelude.{◌||◌, ◌⊎◌, is_some, take}
 use Rattle.std.proofs.lemmas.List.{append-nil}
-use Rattle.px_message.specs.declared.flow.Flow.{Flow}
 use Rattle.px_message.specs.declared.request.Request.{Request}
 use Rattle.px_event.specs.declared.command.Command.{Command}
 use Rattle.px_event.specs.declared.event.Event.{Event}
 use Rattle.px_event.specs.declared.event.Event.TheVariants as events
 use Rattle.px_event.specs.Sides.{closes, piece_of}
-use Rattle.px_event.specs.declared.reply.Reply.{Reply}
 use Rattle.px_event.specs.declared.side.Side.TheVariants.{Client, Server}
 use Rattle.px_event.specs.Chain.{Timed}
 use Rattle.px_read.specs.Items.{Item, missing, part, complete, bad_head, bad_body, request_item}
@@ -16,23 +14,21 @@ use Rattle.px_read.specs.Laws.{head_in, is_begun, is_decided}
 use Rattle.px_read.specs.declared.head.RequestHead.{RequestHead}
 use Rattle.px_read.proofs.ItemLemmas.{Carries, request_carries}
 use Rattle.px_read.proofs.LawLemmas.{chunk_laws}
-use Rattle.px_exchange.specs.declared.place.Place.{Place}
 use Rattle.px_exchange.specs.declared.terms.Terms.{Terms}
-use Rattle.px_exchange.specs.Places.{form_at, is_same_address, server_for}
+use Rattle.px_exchange.specs.Places.{form_at}
 use Rattle.px_parts.specs.Streamed.{request_says, request_streams, streams_behind}
-use Rattle.px_chain.specs.Behind.{used_behind}
 use Rattle.px_chain.specs.Going.{going_by}
-use Rattle.px_chain.specs.Chain.{begins_going, is_silent, is_unheard, parked_for, side_if}
-use Rattle.px_chain.specs.Sights.{UsedBytes, sight_of}
-use Rattle.px_chain.specs.Stages.{At, Parked, Sent, side_parked}
-use Rattle.px_chain.specs.Streams.{Since, bytes_of, client_closed, is_closed}
+use Rattle.px_chain.specs.Keeping.{is_silent}
+use Rattle.px_chain.specs.Sights.{UsedBytes}
+use Rattle.px_chain.specs.Stages.{Sent}
+use Rattle.px_chain.specs.Streams.{bytes_of, client_closed, is_closed}
 use Rattle.px_chain.proofs.FrontLaws as fronts
 use Rattle.px_chain.proofs.FrontLaws.{DropMore, bytes_more, bytes_shut, closed_more, drop_more, open_behind}
-use Rattle.px_said.specs.ClosedForm.{is_whole}
-use Rattle.px_said.specs.Lines.{Exchange, Start, Told, answers_to, client_bytes, ends_at, ends_over, fault_by, fault_in, fault_up, goes_on_over, goes_up_over, heard_of, is_ended, is_fault, is_quiet, sent_by, text_by, text_up, told_by}
+use Rattle.px_said.specs.ClosedForm.{Told, is_whole, told_by}
+use Rattle.px_said.specs.Lines.{Exchange, Start, answers_to, client_bytes, ends_at, ends_over, fault_by, fault_in, fault_up, goes_on_over, goes_up_over, heard_of, is_ended, is_fault, sent_by, text_by, text_up}
 use Rattle.px_said.proofs.ClosedFronts.{IsFront, IsSame, drop_on, front_length, least_at, same_bytes, same_taken, side_grows}
-use Rattle.px_said.proofs.LineFronts.{same_told}
-use Rattle.px_said.proofs.LineStages.{Onward, down_over, exchange_of, parked_used, start_of}
+use Rattle.px_said.proofs.ParkedFronts.{told_same}
+use Rattle.px_said.proofs.LineStages.{Onward, down_over, exchange_of}
 
 -- ---- over the same events
 
@@ -53,7 +49,7 @@ module _ (a b : List (Timed Event)) (same : IsSame a b) where
   same_text_by terms request (Some bytes) = ap (λ (l : List ℕ). going_by (head_in (request_item l)) request (form_at terms.place) l) (same_client bytes)
 
   pub same_heard : (exchange : Exchange) → heard_of exchange a ≡ heard_of exchange b
-  same_heard exchange = same_told exchange.served.server exchange.served.opened exchange.served.used a b same
+  same_heard exchange = told_same exchange.served.server exchange.served.opened exchange.served.used a b same
 
   pub same_fault : (exchange : Exchange) → fault_up exchange a ≡ fault_up exchange b
   same_fault exchange = same_fault_by exchange.up
@@ -66,20 +62,11 @@ module _ (a b : List (Timed Event)) (same : IsSame a b) where
       ap (λ f. is_fault f || is_ended (answers_to exchange.request (heard_of exchange a)).final) (same_fault exchange)
       ∙ ap (λ t. is_fault (fault_up exchange b) || is_ended (answers_to exchange.request t).final) (same_heard exchange)
 
-  same_quiet : (start : Start) (to : Option ℕ) → is_quiet a start to ≡ is_quiet b start to
-  same_quiet start None = refl
-  same_quiet start (Some server) = ap (λ (t : Told). is_silent t.bytes t.shut) (same_told server start.opened start.used a b same)
+  pub same_goes_up : (start : Start) (allowed : Option ℕ) → goes_up_over start allowed a ≡ goes_up_over start allowed b
+  same_goes_up start allowed = ap (request_streams allowed) (same_client start.bytes)
 
-  pub same_goes_up : (terms : Terms) (start : Start) (request : Request) (allowed : Option ℕ) → goes_up_over terms start request allowed a ≡ goes_up_over terms start request allowed b
-  same_goes_up terms start request allowed =
-      let to = parked_for terms.place request start.parked in
-      ap (λ l. request_streams allowed l && is_quiet a start to) (same_client start.bytes)
-      ∙ ap (λ q. request_streams allowed (client_bytes b start.bytes) && q) (same_quiet start to)
-
-  pub same_goes_on : (terms : Terms) (start : Start) (request : Request) (allowed : Option ℕ) → goes_on_over terms start request allowed a ≡ goes_on_over terms start request allowed b
-  same_goes_on terms start request allowed =
-      ap (λ (l : List ℕ). is_decided (request_item l) || goes_up_over terms start request allowed a) (same_client start.bytes)
-      ∙ ap (λ u. is_decided (request_item (client_bytes b start.bytes)) || u) (same_goes_up terms start request allowed)
+  pub same_goes_on : (start : Start) (allowed : Option ℕ) → goes_on_over start allowed a ≡ goes_on_over start allowed b
+  same_goes_on start allowed = ap (λ (l : List ℕ). is_decided (request_item l) || request_streams allowed l) (same_client start.bytes)
 
   pub same_down : (terms : Terms) (events : List (Timed Event)) (all : List Command) (flows : ℕ) (how : Sent) (asked : Request) (side opened : ℕ) (used : UsedBytes) (went : ℕ) (ended : Option ℕ) →
       down_over terms events all flows how asked side opened used went ended a ≡ down_over terms events all flows how asked side opened used went ended b
@@ -89,7 +76,7 @@ module _ (a b : List (Timed Event)) (same : IsSame a b) where
       let fault = same_fault exchange in
       let sent = same_sent_by exchange.up in
       let there = down_over terms events all flows how asked side opened used went ended a in
-      λ i. record { told = told i; fault = fault i; sent = sent i; ended = ended; bytes = there.bytes; further = there.further }
+      λ i. record { served = exchange.served; told = told i; fault = fault i; sent = sent i; ended = ended; bytes = there.bytes; further = there.further }
 
 -- ---- what is carried on
 
@@ -112,29 +99,6 @@ ended_here terms events all flows how asked side opened used went prefix front o
 
 -- ---- whether a request is streamed
 
-side_some : (to_it : Bool) (number server : ℕ) → side_if to_it number ≡ Some server → number ≡ server
-side_some true number server is = cc
-side_some false number server is = absurd (let no : None ≡ Some server = is in cc)
-
-quiet_seen : (place : Place) (asked : Request) (parked : Option Parked) (to : Option ℕ) (start : Start) (since : Since) (opened : ℕ) (used : UsedBytes) (up : ℕ) (prefix : List (Timed Event)) →
-    parked_for place asked parked ≡ to → start.opened ≡ opened → start.used ≡ used_behind false (side_parked parked) used.server →
-    is_quiet prefix start to ≡ is_unheard to (sight_of (side_parked parked) since opened used up prefix)
-quiet_seen place asked parked None start since opened used up prefix is at behind = refl
-quiet_seen place asked None (Some server) start since opened used up prefix is at behind = absurd (let no : None ≡ Some server = is in cc)
-quiet_seen place asked (Some parked) (Some server) start since opened used up prefix is at behind =
-    let same = side_some (is_same_address parked.address (server_for place asked)) parked.server server is in
-    ap (λ o. is_quiet prefix (record start { opened = o }) (Some server)) at
-    ∙ (ap (λ u. is_quiet prefix (record start { opened = opened; used = u }) (Some server)) behind
-    ∙ ap (λ n. is_quiet prefix (record start { opened = opened; used = used.server }) (Some n)) (sym same))
-
-pub goes_seen : (terms : Terms) (at : At) (flow : Flow) (most : Option ℕ) (since : Since) (opened : ℕ) (used : UsedBytes) (up from : ℕ) (left : List Reply) (prefix : List (Timed Event)) →
-    goes_up_over terms (start_of at opened used.client (parked_used at used) from left) flow.request most prefix
-    ≡ begins_going terms.place at flow most (sight_of (side_parked at.parked) since opened used up prefix)
-goes_seen terms at flow most since opened used up from left prefix =
-    ap (λ q. request_streams most (client_bytes prefix used.client) && q)
-    (quiet_seen terms.place flow.request at.parked (parked_for terms.place flow.request at.parked) (start_of at opened used.client (parked_used at used) from left)
-    since opened used up prefix refl refl refl)
-
 -- before it begins nothing goes on
 record NotBegun {H : Type 0} (item : Item H) : Type 0 where
   undecided : is_decided item ≡ false
@@ -151,18 +115,15 @@ headless_streams : (allowed : Option ℕ) (heard : ℕ) (head : Option RequestHe
 headless_streams allowed heard None is = refl
 headless_streams allowed heard (Some head) is = absurd (let no : true ≡ false = is in cc)
 
-both_no : (a b c : Bool) → a ≡ false → b ≡ false → (a || (b && c)) ≡ false
-both_no true b c first second = absurd (let no : true ≡ false = first in cc)
-both_no false true c first second = absurd (let no : true ≡ false = second in cc)
-both_no false false c first second = refl
+both_no : (a b : Bool) → a ≡ false → b ≡ false → (a || b) ≡ false
+both_no true b first second = first
+both_no false b first second = second
 
-pub waits_on : (terms : Terms) (start : Start) (request : Request) (allowed : Option ℕ) (events : List (Timed Event)) → is_begun (request_item (client_bytes events start.bytes)) ≡ false →
-    goes_on_over terms start request allowed events ≡ false
-waits_on terms start request allowed events is =
+pub waits_on : (start : Start) (allowed : Option ℕ) (events : List (Timed Event)) → is_begun (request_item (client_bytes events start.bytes)) ≡ false → goes_on_over start allowed events ≡ false
+waits_on start allowed events is =
     let bytes = client_bytes events start.bytes in
     let none = not_begun (request_item bytes) is in
-    both_no (is_decided (request_item bytes)) (request_streams allowed bytes) (is_quiet events start (parked_for terms.place request start.parked))
-    none.undecided (headless_streams allowed _ (head_in (request_item bytes)) none.headless)
+    both_no (is_decided (request_item bytes)) (request_streams allowed bytes) none.undecided (headless_streams allowed _ (head_in (request_item bytes)) none.headless)
 
 -- ---- a new side
 

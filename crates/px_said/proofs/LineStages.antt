@@ -1,6 +1,6 @@
 -- Where a conversation stands whose replies go on over any size: what is left of all that is said, in each view.
-use Rattle.std.proofs.Common.{◌≡◌, ℕ, suc, ◌+◌, ◌≤◌, Bool, true, false, List, [], ◌∷◌, ◌++◌, length, Option, Some, None}
-use Rattle.std.specs.Prelude.{◌&&◌, ◌⊎◌, ⊤, take}
+use Rattle.std.proofs.Common.{◌≡◌, ℕ, suc, ◌+◌, ◌≤◌, Bool, true, List, [], ◌∷◌, ◌++◌, length, Option, Some, None}
+use Rattle.std.specs.Prelude.{◌&&◌, ◌⊎◌, ⊤, drop, take}
 use Rattle.px_message.specs.declared.fault.Fault.{Fault}
 use Rattle.px_message.specs.declared.flow.Flow.{Flow}
 use Rattle.px_message.specs.declared.request.Request.{Request}
@@ -22,31 +22,37 @@ use Rattle.px_exchange.specs.Flows.{response_of}
 use Rattle.px_exchange.specs.Requests.{judged}
 use Rattle.px_exchange.specs.Texts.{interim_commands}
 use Rattle.px_parts.specs.Texts.{left_of}
-use Rattle.px_chain.specs.Behind.{used_behind}
 use Rattle.px_chain.specs.Sights.{UsedBytes}
-use Rattle.px_chain.specs.Stages.{At, Doing, Sent, Stage, all_sent, busy, coming_down, connection, going_up, idle, next, over, request_body, response_body, response_head, side_parked, unparked, upgraded}
-use Rattle.px_said.specs.ClosedForm.{request_items}
-use Rattle.px_said.specs.Lines.{Exchange, Start, Told, answers_to, behind_reply, client_bytes, ends_at, ends_over, fault_up, goes_on_at, goes_on_kept, goes_on_over, goes_on_streamed, heard_of, is_sent_over, next_allows, once_whole, said_next, said_request, said_response, said_to, sent_from, text_down, text_up, until, used_by}
+use Rattle.px_chain.specs.Stages.{At, Doing, Parked, Sent, Stage, all_sent, busy, coming_down, connection, going_up, idle, next, over, request_body, response_body, response_head, upgraded}
+use Rattle.px_said.specs.ClosedForm.{Served, Told, request_items, said_behind, still_parked}
+use Rattle.px_said.specs.Lines.{Exchange, Start, answers_to, behind_reply, client_bytes, ends_at, ends_over, fault_up, goes_on_at, goes_on_kept, goes_on_over, goes_on_streamed, heard_of, is_sent_over, next_allows, next_start, once_whole, said_request, said_response, said_to, sent_from, text_down, text_up, until, used_by}
 use Rattle.px_said.proofs.ClosedFronts.{Waits}
 use Rattle.px_said.proofs.ClosedItems.{items_after}
 use Rattle.px_said.proofs.LineQuiet.{Rest}
 
--- where the request of this flow stands, behind so many bytes of the client and so many events, with its server's side, if one is parked
-abbrev pub start_of : At → (opened bytes used from : ℕ) → List Reply → Start
-start_of at opened bytes used from replies = record {
+-- the side that waits for a request, heard in the events behind so many, behind so many bytes
+pub record Waiting : Type 0 where
+  pub parked : Option Parked
+  pub opened : ℕ
+  pub used : ℕ
+
+-- where the request of this flow stands, behind so many bytes of the client and so many events
+abbrev pub start_of : At → Waiting → (bytes from : ℕ) → List Reply → Start
+start_of at waiting bytes from replies = record {
   flow = at.flow;
   server = at.dials;
   bytes = bytes;
   events = from;
   replies = replies;
-  parked = at.parked;
-  opened = opened;
-  used = used;
+  parked = waiting.parked;
+  opened = waiting.opened;
+  used = waiting.used;
 }
 
--- how many bytes of a parked side were used
-abbrev pub parked_used : At → UsedBytes → ℕ
-parked_used at used = used_behind false (side_parked at.parked) used.server
+-- What waits is the side that is parked; or none is, and by these events nothing waits any more.
+pub data IsKept (parked : Option Parked) (opened used : ℕ) (waiting : Waiting) (prefix : List (Timed Event)) : Type 0 where
+  is_parked : waiting ≡ record { parked = parked; opened = opened; used = used } → IsKept parked opened used waiting prefix
+  is_gone : parked ≡ None → still_parked prefix waiting.parked waiting.opened waiting.used ≡ None → IsKept parked opened used waiting prefix
 
 -- where what goes up of it begins
 abbrev pub up_of : Sent → ℕ → Option ℕ
@@ -67,6 +73,7 @@ exchange_of how asked side opened used went = record {
 
 -- What is heard of an exchange, where it ends, and what stands behind it.
 pub record Down : Type 0 where
+  pub served : Served
   pub told : Told
   pub fault : Option Fault
   pub sent : Bool
@@ -76,32 +83,32 @@ pub record Down : Type 0 where
 
 -- ---- what is said of a response, and behind it
 
-abbrev pub next_of : Down → At → (opened from : ℕ) → List Reply → Start
-next_of down at opened from replies = start_of (unparked at) opened down.bytes 0 from replies
+-- while a request is with its server nothing waits
+abbrev pub next_of : Down → At → List Reply → Start
+next_of down at replies = start_of at (record { parked = None; opened = 0; used = 0 }) down.bytes 0 replies
 
-abbrev pub after_streamed : Down → At → (opened from : ℕ) → Request → List Reply → ResponseHead → List Command
-after_streamed down at opened from asked replies head =
-    let start = next_of down at opened from replies in said_next (down.sent && goes_on_streamed start asked head) start down.ended down.further
+abbrev pub further_on : Terms → Down → Request → Start → ℕ → List Command
+further_on terms down asked start ended = down.further (next_start terms.place start down.served asked (answers_to asked down.told) ended)
 
-abbrev pub after_kept : Down → At → (opened from : ℕ) → Request → List Reply → Response → List Command
-after_kept down at opened from asked replies response =
-    let start = next_of down at opened from replies in said_next (down.sent && goes_on_kept start asked response) (behind_reply start) down.ended down.further
+abbrev pub after_streamed : Terms → Down → At → Request → List Reply → ResponseHead → List Command
+after_streamed terms down at asked replies head =
+    let start = next_of down at replies in said_behind (down.sent && goes_on_streamed start asked head) down.ended (further_on terms down asked start)
 
-abbrev pub response_left : Down → At → (opened from : ℕ) → Request → List Reply → Option ℕ → List Command
-response_left down at opened from asked replies most =
-    said_response most asked down.told down.fault (after_streamed down at opened from asked replies) (after_kept down at opened from asked replies)
+abbrev pub after_kept : Terms → Down → At → Request → List Reply → Response → List Command
+after_kept terms down at asked replies response =
+    let start = next_of down at replies in said_behind (down.sent && goes_on_kept start asked response) down.ended (further_on terms down asked (behind_reply start))
 
-abbrev pub answers_left : Terms → Down → At → (opened from : ℕ) → Request → List Reply → List Command
-answers_left terms down at opened from asked replies =
-    let start = next_of down at opened from replies in
-    interim_commands asked (answers_to asked down.told).interim
-    ++ said_response (next_allows terms replies) asked down.told down.fault
-    (λ head. said_next (down.sent && goes_on_streamed start asked head) (behind_reply start) down.ended down.further)
-    (λ response. said_next (down.sent && goes_on_kept start asked response) (behind_reply (behind_reply start)) down.ended down.further)
+abbrev pub response_left : Terms → Down → At → Request → List Reply → Option ℕ → List Command
+response_left terms down at asked replies most =
+    said_response most asked down.told down.fault (after_streamed terms down at asked replies) (after_kept terms down at asked replies)
 
-abbrev pub coming_left : Down → At → (opened from : ℕ) → Request → List Reply → ResponseHead → List Command
-coming_left down at opened from asked replies head =
-    commands.Send Client (text_down asked down.told (Some head)) ∷ once_whole (answers_to asked down.told).final (after_streamed down at opened from asked replies)
+abbrev pub answers_left : Terms → Down → At → Request → List Reply → List Command
+answers_left terms down at asked replies =
+    interim_commands asked (answers_to asked down.told).interim ++ response_left terms down at asked (drop 1 replies) (next_allows terms replies)
+
+abbrev pub coming_left : Terms → Down → At → Request → List Reply → ResponseHead → List Command
+coming_left terms down at asked replies head =
+    commands.Send Client (text_down asked down.told (Some head)) ∷ once_whole (answers_to asked down.told).final (after_streamed terms down at asked replies)
 
 -- all that is said, whatever it is
 module _ (terms : Terms) (events : List (Timed Event)) (all : List Command) where
@@ -133,36 +140,41 @@ module _ (terms : Terms) (events : List (Timed Event)) (all : List Command) wher
 
   module _ (flows : ℕ) where
     -- between two requests: the next one has not begun over fewer
-    pub record Between (at : At) (opened bytes parked : ℕ) (prefix : List (Timed Event)) (sent : List Command) (left : List Reply) : Type 0 where
+    pub record Between (at : At) (opened : ℕ) (used : UsedBytes) (prefix : List (Timed Event)) (sent : List Command) (left : List Reply) : Type 0 where
       pub from : ℕ
+      pub waiting : Waiting
+      pub keeps : IsKept at.parked opened used.server waiting prefix
       pub within : from ≤ length prefix
-      pub waits : Waits (begun_over bytes) from (length prefix)
-      pub rest : Rest all sent (further_behind (suc flows) bytes (start_of at opened bytes parked from left))
+      pub waits : Waits (begun_over used.client) from (length prefix)
+      pub rest : Rest all sent (further_behind (suc flows) used.client (start_of at waiting used.client from left))
 
     -- a request's body is awaited
-    pub record Begun (at : At) (asked : Request) (most : Option ℕ) (opened bytes parked up : ℕ) (prefix : List (Timed Event)) (sent : List Command) (left : List Reply) : Type 0 where
+    pub record Begun (at : At) (asked : Request) (most : Option ℕ) (opened : ℕ) (used : UsedBytes) (up : ℕ) (prefix : List (Timed Event)) (sent : List Command) (left : List Reply) : Type 0 where
       pub from : ℕ
+      pub waiting : Waiting
+      pub keeps : IsKept at.parked opened used.server waiting prefix
       pub within : from ≤ length prefix
-      pub waits : Waits (λ so_many. goes_on_over terms (start_of at opened bytes parked from left) asked most (take so_many events)) from (length prefix)
+      pub waits : Waits (λ so_many. goes_on_over (start_of at waiting used.client from left) most (take so_many events)) from (length prefix)
       pub head : RequestHead
-      pub there : head_in (request_item (client_bytes events bytes)) ≡ Some head
+      pub there : head_in (request_item (client_bytes events used.client)) ≡ Some head
       pub accepted : judged terms.place head ≡ Accepted asked
       pub untold : up ≡ 0
       pub rest : Rest all sent
-          (said_request terms events (start_of at opened bytes parked from left) asked most (request_item (client_bytes events bytes))
-          (goes_on_at terms events (start_of at opened bytes parked from left) asked most) (further_after flows bytes))
+          (said_request terms events (start_of at waiting used.client from left) asked most (request_item (client_bytes events used.client))
+          (goes_on_at events (start_of at waiting used.client from left) most) (further_after flows used.client))
 
     abbrev pub MayGoUp : Sent → ℕ → Type 0
     MayGoUp all_sent bytes = ⊤
     MayGoUp going_up bytes = IsPlain bytes
 
     -- the connection to its server
-    pub record Connecting (how : Sent) (at : At) (asked : Request) (opened bytes parked up : ℕ) (prefix : List (Timed Event)) (sent : List Command) (left : List Reply) : Type 0 where
+    pub record Connecting (how : Sent) (at : At) (asked : Request) (used : UsedBytes) (up : ℕ) (prefix : List (Timed Event)) (sent : List Command) (left : List Reply) : Type 0 where
       pub from : ℕ
-      pub plain : MayGoUp how bytes
+      pub waiting : Waiting
+      pub plain : MayGoUp how used.client
       pub untold : up ≡ 0
       pub rest : Rest all sent
-          (said_to terms events (start_of at opened (bytes_behind how bytes) parked from left) (up_of how bytes) asked (length prefix) None (further_of how flows bytes))
+          (said_to terms events (start_of at waiting (bytes_behind how used.client) from left) (up_of how used.client) asked (length prefix) None (further_of how flows used.client))
 
     -- the request went to its server over so many events, and the exchange has not ended over fewer
     pub record Onward (how : Sent) (asked : Request) (side opened : ℕ) (used : UsedBytes) (went : ℕ) (prefix : List (Timed Event)) : Type 0 where
@@ -180,6 +192,7 @@ module _ (terms : Terms) (events : List (Timed Event)) (all : List Command) wher
     abbrev pub down_over : Sent → Request → (side opened : ℕ) → UsedBytes → ℕ → Option ℕ → List (Timed Event) → Down
     down_over how asked side opened used went ended heard =
         let exchange = exchange_of how asked side opened used went in record {
+          served = exchange.served;
           told = heard_of exchange heard;
           fault = fault_up exchange heard;
           sent = is_sent_over exchange heard;
@@ -212,46 +225,43 @@ module _ (terms : Terms) (events : List (Timed Event)) (all : List Command) wher
     pub record Answering (how : Sent) (at : At) (asked : Request) (side opened : ℕ) (used : UsedBytes) (up : ℕ) (prefix : List (Timed Event)) (sent : List Command) (left : List Reply) : Type 0 where
       pub went : ℕ
       pub onward : Onward how asked side opened used went prefix
-      pub from : ℕ
       pub goes : UpTo how asked side opened used up went prefix
       pub calm : (fault_up (exchange_of how asked side opened used went) prefix ≡ None)
           ⊎ ((answers_to asked (heard_of (exchange_of how asked side opened used went) prefix)).final ≡ missing)
       pub rest : Rest all sent (up_left how side up (text_of how asked side opened used went)
-          ++ answers_left terms (down_of how asked side opened used went) at opened from asked left)
+          ++ answers_left terms (down_of how asked side opened used went) at asked left)
 
     -- and that response's body
     pub record Returning (how : Sent) (at : At) (flow : Flow) (most : Option ℕ) (side opened : ℕ) (used : UsedBytes) (up : ℕ) (prefix : List (Timed Event)) (sent : List Command) (left : List Reply) : Type 0 where
       pub went : ℕ
       pub onward : Onward how flow.request side opened used went prefix
-      pub from : ℕ
       pub goes : UpTo how flow.request side opened used up went prefix
       pub head : ResponseHead
       pub there : head_in (answers_to flow.request (heard_of (exchange_of how flow.request side opened used went) prefix)).final ≡ Some head
       pub relayed : is_relayed head.code ≡ true
       pub response : flow.response ≡ Some (response_of head)
       pub rest : Rest all sent (up_left how side up (text_of how flow.request side opened used went)
-          ++ response_left (down_of how flow.request side opened used went) at opened from flow.request left most)
+          ++ response_left terms (down_of how flow.request side opened used went) at flow.request left most)
 
     -- which is streamed
     pub record Coming (how : Sent) (at : At) (flow : Flow) (side opened : ℕ) (used : UsedBytes) (up : ℕ) (prefix : List (Timed Event)) (sent : List Command) (left : List Reply) : Type 0 where
       pub went : ℕ
       pub onward : Onward how flow.request side opened used went prefix
-      pub from : ℕ
       pub goes : UpTo how flow.request side opened used up went prefix
       pub head : ResponseHead
       pub there : head_in (answers_to flow.request (heard_of (exchange_of how flow.request side opened used went) prefix)).final ≡ Some head
       pub relayed : is_relayed head.code ≡ true
       pub response : flow.response ≡ Some (record (response_of head) { streamed = true })
       pub rest : Rest all sent (up_left how side up (text_of how flow.request side opened used went)
-          ++ coming_left (down_of how flow.request side opened used went) at opened from flow.request left head)
+          ++ coming_left terms (down_of how flow.request side opened used went) at flow.request left head)
 
     -- it has ended, and all was said
     pub record Ended (sent : List Command) : Type 0 where
       pub is_all : Rest all sent []
 
     abbrev pub IsDoing : At → Flow → Doing → (opened : ℕ) → UsedBytes → (up : ℕ) → List (Timed Event) → List Command → List Reply → Type 0
-    IsDoing at flow (request_body None most) opened used up prefix sent left = Begun at flow.request most opened used.client (parked_used at used) up prefix sent left
-    IsDoing at flow (connection how) opened used up prefix sent left = Connecting how at flow.request opened used.client (parked_used at used) up prefix sent left
+    IsDoing at flow (request_body None most) opened used up prefix sent left = Begun at flow.request most opened used up prefix sent left
+    IsDoing at flow (connection how) opened used up prefix sent left = Connecting how at flow.request used up prefix sent left
     IsDoing at flow (response_head side how) opened used up prefix sent left = Answering how at flow.request side opened used up prefix sent left
     IsDoing at flow (response_body side how most) opened used up prefix sent left = Returning how at flow most side opened used up prefix sent left
     IsDoing at flow (coming_down side how) opened used up prefix sent left = Coming how at flow side opened used up prefix sent left
@@ -259,7 +269,7 @@ module _ (terms : Terms) (events : List (Timed Event)) (all : List Command) wher
     IsDoing at flow _ opened used up prefix sent left = ⊥
 
     abbrev pub IsAt : Stage → (opened : ℕ) → UsedBytes → (up : ℕ) → List (Timed Event) → List Command → List Reply → Type 0
-    IsAt (idle at) opened used up prefix sent left = Between at opened used.client (parked_used at used) prefix sent left
+    IsAt (idle at) opened used up prefix sent left = Between at opened used prefix sent left
     IsAt (busy at flow doing) opened used up prefix sent left = IsDoing at flow doing opened used up prefix sent left
     IsAt (next at) opened used up prefix sent left = ⊥
     IsAt over opened used up prefix sent left = Ended sent

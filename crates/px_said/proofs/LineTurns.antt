@@ -17,7 +17,6 @@ use Rattle.px_read.specs.Items.{Body, Item, missing, part, complete, bad_head, b
 use Rattle.px_read.specs.Laws.{head_in, is_decided}
 use Rattle.px_read.specs.declared.head.RequestHead.{RequestHead as ReadRequest}
 use Rattle.px_exchange.specs.Places.{dialled_for, form_at}
-use Rattle.px_exchange.specs.declared.place.Place.{Place}
 use Rattle.px_exchange.specs.declared.asked.Judged.{Judged}
 use Rattle.px_exchange.specs.declared.asked.Judged.TheVariants.{Refused, Accepted, Connects}
 use Rattle.px_exchange.specs.declared.ending.Used.{Used}
@@ -31,32 +30,27 @@ use Rattle.px_exchange.specs.Flows.{ask_of, with_body}
 use Rattle.px_exchange.specs.Requests.{expects, flow_of, is_head, judged}
 use Rattle.px_exchange.specs.Texts.{meets_expectation, onward_text}
 use Rattle.px_chain.specs.Behind.{used_behind, used_by_turn}
-use Rattle.px_chain.specs.Chain.{begins_going, goes_on_by, parked_for, sequence, turn_body, turn_dial, turn_head, turn_judged, turn_taken_body, turn_taken_head}
-use Rattle.px_chain.specs.Going.{allowed_up_by}
+use Rattle.px_chain.specs.Chain.{goes_on_by, parked_for, sequence, turn_body, turn_dial, turn_head, turn_judged, turn_taken_body, turn_taken_head}
+use Rattle.px_chain.specs.Going.{allowed_up_by, goes_up}
+use Rattle.px_chain.specs.Keeping.{unspoilt_at}
 use Rattle.px_chain.specs.Sights.{Sight, UsedBytes, request_in, server_parked, sight_of, used_with}
-use Rattle.px_chain.specs.Stages.{At, Parked, Sent, Stage, all_sent, busy, connection, going_up, idle, request_body, side_of, side_parked, unparked}
+use Rattle.px_chain.specs.Stages.{At, Sent, Stage, all_sent, busy, connection, going_up, idle, request_body, side_of, side_parked, unparked}
 use Rattle.px_chain.specs.Streams.{Since, bytes_of}
 use Rattle.px_chain.proofs.EndLemmas.{turns_in_order}
 use Rattle.px_said.specs.ClosedForm.{fault_said, first_flows, flows_behind, request_items, said, said_of}
-use Rattle.px_said.specs.Lines.{AllGoOn, Start, client_bytes, goes_on_at, goes_on_over, goes_up_over, said_head, said_kept, said_request, said_start, said_to, said_way, sent_from}
+use Rattle.px_said.specs.Lines.{AllGoOn, Start, client_bytes, goes_on_at, goes_on_over, goes_up_over, said_head, said_kept, said_request, said_start, said_to, said_way, sent_from, side_over}
 use Rattle.px_said.proofs.ClosedFronts.{IsFront, front_length, least_at, same_taken}
 use Rattle.px_said.proofs.ClosedItems.{after_on, items_after, items_split}
 use Rattle.px_said.proofs.ClosedQuiet.{said_join, says_expectation, says_fault, says_last_behind, says_sent, says_server}
-use Rattle.px_said.proofs.ClosedStages.{none_used}
-use Rattle.px_said.proofs.ClosedTurns.{asks_nothing, asks_same, behind_these, ends_ask}
-use Rattle.px_said.proofs.LineQuiet.{AllSends, NoQuestion, Rest, SaysEnd, closes_none, end_of, ends_none, none_both, rest_is, rest_on, rest_said, sends_keep, server_closes, sends_none, skips, takes_request_body, takes_request_head}
-use Rattle.px_said.proofs.LineSeen.{carried, goes_seen, new_missing, same_goes_on, same_goes_up, waits_on}
-use Rattle.px_said.proofs.LineStages.{Begun, Between, Connecting, IsAt, answers_left, down_of, further_after, further_behind, parked_used, start_of}
+use Rattle.px_said.proofs.ClosedLooks.{asks_nothing, asks_same, behind_these, ends_ask}
+use Rattle.px_said.proofs.LineQuiet.{AllSends, NoQuestion, Rest, SaysEnd, closes_none, end_of, ends_none, none_both, rest_behind, rest_is, rest_said, sends_keep, server_closes, sends_none, skips, takes_request_body, takes_request_head}
+use Rattle.px_said.proofs.LineKept.{kept_served, kept_side, kept_unspoilt}
+use Rattle.px_said.proofs.LineSeen.{carried, new_missing, same_goes_on, same_goes_up, waits_on}
+use Rattle.px_said.proofs.LineStages.{Begun, Between, Connecting, IsAt, Waiting, answers_left, down_of, further_after, further_behind, start_of}
 
 meets_sends : (expected : Bool) → AllSends (meets_expectation expected)
 meets_sends true = tt
 meets_sends false = tt
-
--- the parked side that a request goes to is one of which so many bytes were used
-pub parked_there : (place : Place) (request : Request) (parked : Option Parked) (used side : ℕ) → parked_for place request parked ≡ Some side →
-    used_behind false (side_parked parked) used ≡ used
-parked_there place request None used side is = absurd (let no : None ≡ Some side = is in cc)
-parked_there place request (Some parked) used side is = refl
 
 module _ (terms : Terms) (events : List (Timed Event)) (all : List Command) where
   -- Where it stands behind the reply, with so many flows behind that one, and the replies that are left go on; or the last of these flows
@@ -111,46 +105,45 @@ module _ (terms : Terms) (events : List (Timed Event)) (all : List Command) wher
   behind_used used size side = record { client = used.client + size; server = used_behind false side used.server }
 
   -- a whole request that goes on: its server is dialled, or it goes to the parked side
-  side_led : (flows : ℕ) (side : Option ℕ) (at : At) (whole : Flow) (opened : ℕ) (used : UsedBytes) (size from : ℕ) (sent : List Command) (waits : Bool) (rest : List Command)
-      (replies : List Reply) (prefix : List (Timed Event)) → parked_for terms.place whole.request at.parked ≡ side →
+  side_led : (flows : ℕ) (side : Option ℕ) (at : At) (whole : Flow) (opened : ℕ) (used : UsedBytes) (size from : ℕ) (waiting : Waiting) (sent strayed : List Command) → said strayed ≡ [] →
+      (waits : Bool) (rest : List Command) (replies : List Reply) (prefix : List (Timed Event)) →
+      ((server : ℕ) → side ≡ Some server → (waiting.opened ≡ opened) × (waiting.used ≡ used.server)) →
       let turned = goes_on_by side terms.place at whole in
-      Rest all sent (said_to terms events (start_of at opened (used.client + size) (parked_used at used) from replies) None whole.request (length prefix) side
-      (further_behind terms events all flows (used.client + size))) →
+      Rest all sent (said_to terms events (start_of at waiting (used.client + size) from replies) None whole.request (length prefix) side (further_behind terms events all flows (used.client + size))) →
       AllGoOn waits (first_flows (suc flows) (turned.owed ++ rest)) replies →
-      Led flows turned opened (λ stage. behind_used used size (side_of stage)) 0 prefix sent [] (ask_of whole RequestBody) waits rest replies
-  side_led flows None at whole opened used size from sent waits rest replies prefix to is goes =
+      Led flows turned opened (λ stage. behind_used used size (side_of stage)) 0 prefix sent strayed (ask_of whole RequestBody) waits rest replies
+  side_led flows None at whole opened used size from waiting sent strayed quiet waits rest replies prefix served is goes =
       let ask : Command = ask_of whole RequestBody in
-      let P : ℕ → Type 0 = λ n. Connecting terms events all flows all_sent at whole.request opened (used.client + size) n 0 prefix (sent ++ ask ∷ []) replies in
-      let there : P (parked_used at used) = record {
+      on_led (goes_on_by None terms.place at whole) opened (λ stage. behind_used used size (side_of stage)) 0 prefix sent strayed ask waits rest replies flows refl (λ more rest. refl) tt
+      (record {
         from = from;
+        waiting = waiting;
         plain = tt;
         untold = refl;
-        rest = rest_on all sent (ask ∷ []) [] _ _ is refl refl;
-      } in
-      on_led (goes_on_by None terms.place at whole) opened (λ stage. behind_used used size (side_of stage)) 0 prefix sent [] ask waits rest replies flows refl (λ more rest. refl) tt
-      (subst P (sym (none_used (side_parked at.parked) used.server)) there) goes
-  side_led flows (Some side) at whole opened used size from sent waits rest replies prefix to is goes =
+        rest = rest_behind all sent strayed (ask ∷ []) [] _ _ is quiet refl refl;
+      }) goes
+  side_led flows (Some side) at whole opened used size from waiting sent strayed quiet waits rest replies prefix served is goes =
       let ask : Command = ask_of whole RequestBody in
       let text : Command = commands.Send (Server side) (onward_text (form_at terms.place) whole.request) in
-      let same : parked_used at used ≡ used.server = parked_there terms.place whole.request at.parked used.server side to in
-      let left : ℕ → List Command = λ n.
-      answers_left terms (down_of terms events all flows all_sent whole.request side opened (record { client = used.client + size; server = n }) (length prefix)) (unparked at) opened from
-      whole.request replies in
-      on_led (goes_on_by (Some side) terms.place at whole) opened (λ stage. behind_used used size (side_of stage)) 0 prefix sent [] ask waits rest replies flows refl (λ more rest. refl) tt
+      let same = served side refl in
+      let left : ℕ → ℕ → List Command = λ behind n.
+      answers_left terms (down_of terms events all flows all_sent whole.request side behind (record { client = used.client + size; server = n }) (length prefix)) (unparked at) whole.request replies in
+      on_led (goes_on_by (Some side) terms.place at whole) opened (λ stage. behind_used used size (side_of stage)) 0 prefix sent strayed ask waits rest replies flows refl (λ more rest. refl) tt
       (record {
         went = length prefix;
         onward = record {
           within = omega arith;
           waits = λ k low high. absurd (omega arith);
         };
-        from = from;
         goes = tt;
         calm = inl refl;
-        rest = rest_on all sent (ask ∷ text ∷ []) (text ∷ []) _ (left used.server) is refl (ap (λ n. text ∷ left n) same);
+        rest = rest_behind all sent strayed (ask ∷ text ∷ []) (text ∷ []) _ (left opened used.server) is quiet refl
+            (ap (λ o. text ∷ left o waiting.used) same.0 ∙ ap (λ n. text ∷ left opened n) same.1);
       }) goes
 
   module _ (flows : ℕ) (sent : List Command) (moment : ℕ) (value : Reply) (waits : Bool) (rest : List Command) (replies : List Reply)
-      (since : Since) (opened : ℕ) (used : UsedBytes) (up : ℕ) (prefix : List (Timed Event)) (is_front : IsFront prefix events) (ask : Command) (leaving : List Command) (at : At) where
+      (since : Since) (opened : ℕ) (used : UsedBytes) (up : ℕ) (prefix : List (Timed Event)) (is_front : IsFront prefix events) (ask : Command) (leaving : List Command) (at : At)
+      (strayed : List Command) (quiet : said strayed ≡ []) where
     abbrev answer : Timed Reply
     answer = record { moment = moment; value = value }
 
@@ -158,8 +151,12 @@ module _ (terms : Terms) (events : List (Timed Event)) (all : List Command) wher
     abbrev seen : Sight
     seen = sight_of (side_parked at.parked) since opened used up prefix
 
+    -- a reply forgets one of which something was heard
+    abbrev at_there : At
+    at_there = unspoilt_at at seen
+
     abbrev parked : Used
-    parked = server_parked at.parked seen
+    parked = server_parked at_there.parked seen
 
     -- the replies that are left before this one, and behind it
     abbrev left : List Reply
@@ -168,8 +165,8 @@ module _ (terms : Terms) (events : List (Timed Event)) (all : List Command) wher
     abbrev bytes : List ℕ
     bytes = client_bytes events used.client
 
-    abbrev from_start : ℕ → List Reply → Start
-    from_start from replies = start_of at opened used.client (parked_used at used) from replies
+    abbrev from_start : Waiting → ℕ → List Reply → Start
+    from_start waiting from replies = start_of at waiting used.client from replies
 
     -- ---- the head of a request
 
@@ -178,52 +175,53 @@ module _ (terms : Terms) (events : List (Timed Event)) (all : List Command) wher
     leads_on stage = used_by_turn (idle at) seen used stage
 
     abbrev Stands : List Command → Type 0
-    Stands told = Between terms events all flows at opened used.client (parked_used at used) prefix told left
+    Stands told = Between terms events all flows at opened used prefix told left
 
     accepted_led : (head : ReadRequest) (message : Request) → Stands sent → head_in (request_item bytes) ≡ Some head → judged terms.place head ≡ Accepted message →
-        Leads flows (turn_judged terms at head (Accepted message) seen answer) opened leads_on 0 prefix sent [] (ask_of (flow_of terms at.flow message seen.now) RequestHead) waits rest value replies
-    accepted_led head message b there accepted goes =
+        Leads flows (turn_judged terms at_there head (Accepted message) seen answer) opened leads_on 0 prefix sent strayed (ask_of (flow_of terms at.flow message seen.now) RequestHead) waits rest value replies
+    accepted_led head message b head_there accepted goes =
         let flow = flow_of terms at.flow message seen.now in
         let asked = ask_of flow RequestHead in
         let most = allowed_up_by terms.streams value in
         let meets = meets_expectation (expects head) in
-        let start = from_start b.from left in
+        let start = from_start b.waiting b.from left in
         let F = further_after terms events all flows used.client in
-        let said_then : List Command = said_request terms events (from_start b.from replies) message most (request_item bytes) (goes_on_at terms events (from_start b.from replies) message most) F in
+        let said_then : List Command = said_request terms events (from_start b.waiting b.from replies) message most (request_item bytes) (goes_on_at events (from_start b.waiting b.from replies) most) F in
         let opening : further_behind terms events all (suc flows) used.client start ≡ meets ++ said_then =
         ap (λ l. sent_from terms events start (take (suc flows) l)) (items_split bytes)
-        ∙ (ap (λ (o : Option ReadRequest). said_start terms events start o (request_item bytes) F) there
+        ∙ (ap (λ (o : Option ReadRequest). said_start terms events start o (request_item bytes) F) head_there
         ∙ ap (λ j. said_head terms events start head j (request_item bytes) F) accepted) in
-        let P : ℕ → Type 0 = λ n. Begun terms events all flows at message most opened used.client n 0 prefix (sent ++ asked ∷ meets) replies in
-        let begun : P (parked_used at used) = record {
+        let begun : Begun terms events all flows at_there message most opened (leads_on (busy at_there flow (request_body None most))) 0 prefix (sent ++ (strayed ++ asked ∷ meets)) replies = record {
           from = b.from;
+          waiting = b.waiting;
+          keeps = kept_unspoilt at.parked since opened used up prefix b.waiting b.keeps;
           within = b.within;
-          waits = λ k low high. waits_on terms (from_start b.from replies) message most (take k events) (b.waits k low high);
+          waits = λ k low high. waits_on (from_start b.waiting b.from replies) most (take k events) (b.waits k low high);
           head = head;
-          there = there;
+          there = head_there;
           accepted = accepted;
           untold = refl;
-          rest = rest_on all sent (asked ∷ meets) meets _ said_then b.rest (says_expectation (expects head)).is opening;
+          rest = rest_behind all sent strayed (asked ∷ meets) meets _ said_then b.rest quiet (says_expectation (expects head)).is opening;
         } in
-        let Q : Taken Request → Type 0 = λ t. Leads flows (turn_taken_head at flow (expects head) most t moment seen) opened leads_on 0 prefix sent [] asked waits rest value replies in
+        let Q : Taken Request → Type 0 = λ t. Leads flows (turn_taken_head at_there flow (expects head) most t moment seen) opened leads_on 0 prefix sent strayed asked waits rest value replies in
         let led : Q (taken.GoesOn message) = λ on.
-        on_led (turn_taken_head at flow (expects head) most (taken.GoesOn message) moment seen) opened leads_on 0 prefix sent [] asked waits rest replies flows refl
+        on_led (turn_taken_head at_there flow (expects head) most (taken.GoesOn message) moment seen) opened leads_on 0 prefix sent strayed asked waits rest replies flows refl
         (sends_keep meets (meets_sends (expects head))) (sends_none meets (meets_sends (expects head)))
-        (subst P (sym (none_used (side_parked at.parked) used.server)) begun) on.1 in
+        begun on.1 in
         subst Q (sym (takes_request_head flow value goes.0)) led goes
 
     judged_led : (head : ReadRequest) (made : Judged) → judged terms.place head ≡ made → Stands sent → head_in (request_item bytes) ≡ Some head →
         or_leaves seen.closed leaving (look_judged terms at.flow head made seen.now parked seen.closed) ≡ Asks ask →
-        Leads flows (turn_judged terms at head made seen answer) opened leads_on 0 prefix sent [] ask waits rest value replies
+        Leads flows (turn_judged terms at_there head made seen answer) opened leads_on 0 prefix sent strayed ask waits rest value replies
     judged_led head (Refused fault) made b there asks = absurd (ends_ask _ ask asks)
     judged_led head (Connects address) made b there asks = absurd (ends_ask _ ask asks)
     judged_led head (Accepted message) made b there asks =
-        let P : Command → Type 0 = λ c. Leads flows (turn_judged terms at head (Accepted message) seen answer) opened leads_on 0 prefix sent [] c waits rest value replies in
+        let P : Command → Type 0 = λ c. Leads flows (turn_judged terms at_there head (Accepted message) seen answer) opened leads_on 0 prefix sent strayed c waits rest value replies in
         subst P (asks_same _ ask asks) (accepted_led head message b there made)
 
     pub idle_led : (item : Item ReadRequest) → request_in seen ≡ item → Stands sent →
         or_leaves seen.closed leaving (look_head terms at.flow item seen.now parked seen.closed) ≡ Asks ask →
-        Leads flows (turn_head terms at item seen answer) opened leads_on 0 prefix sent [] ask waits rest value replies
+        Leads flows (turn_head terms at_there item seen answer) opened leads_on 0 prefix sent strayed ask waits rest value replies
     idle_led missing is b asks = absurd (asks_nothing seen.closed leaving ask asks)
     idle_led (part head body) is b asks = judged_led head (judged terms.place head) refl b ((carried used.client prefix events is_front).head head (ap head_in is)) asks
     idle_led (complete head body trailers size) is b asks = judged_led head (judged terms.place head) refl b ((carried used.client prefix events is_front).head head (ap head_in is)) asks
@@ -236,13 +234,12 @@ module _ (terms : Terms) (events : List (Timed Event)) (all : List Command) wher
     abbrev behind_item : Item ReadRequest → Stage → UsedBytes
     behind_item item stage = record { client = used_with item used.client; server = used_behind false (side_of stage) used.server }
 
-    module _ (flow : Flow) (most : Option ℕ) (kept : begins_going terms.place at flow most seen ≡ false)
-        (b : Begun terms events all flows at flow.request most opened used.client (parked_used at used) up prefix sent left) where
+    module _ (flow : Flow) (most : Option ℕ) (kept : goes_up most seen ≡ false) (b : Begun terms events all flows at flow.request most opened used up prefix sent left) where
       abbrev behind_body : Stage → UsedBytes
       behind_body stage = used_by_turn (busy at flow (request_body None most)) seen used stage
 
       whole_there : (head : ReadRequest) (body : Body) (trailers : List (List ℕ × List ℕ)) (size : ℕ) → request_in seen ≡ complete head body trailers size →
-          Leads flows (turn_body terms.place at flow (complete head body trailers size) seen answer) opened (behind_item (complete head body trailers size)) 0 prefix sent []
+          Leads flows (turn_body terms.place at_there flow (complete head body trailers size) seen answer) opened (behind_item (complete head body trailers size)) 0 prefix sent strayed
           (ask_of (with_body flow body.content trailers seen.now) RequestBody) waits rest value replies
       whole_there head body trailers size is goes =
           let whole = with_body flow body.content trailers seen.now in
@@ -254,49 +251,54 @@ module _ (terms : Terms) (events : List (Timed Event)) (all : List Command) wher
           let same : Some b.head ≡ Some head = sym b.there ∙ ap head_in item in
           let heads : b.head ≡ head = cc in
           let accepted : judged terms.place head ≡ Accepted flow.request = ap (judged terms.place) (sym heads) ∙ b.accepted in
-          let start = from_start b.from left in
-          let test : ℕ → Bool = λ k. goes_on_over terms start flow.request most (take k events) in
+          let start = from_start b.waiting b.from left in
+          let test : ℕ → Bool = λ k. goes_on_over start most (take k events) in
           let here : test come ≡ true =
-          sym (same_goes_on prefix taken_events alike terms start flow.request most)
-          ∙ ap (λ (i : Item ReadRequest). is_decided i || goes_up_over terms start flow.request most prefix) is in
-          let connected : goes_on_at terms events start flow.request most ≡ Some come =
+          sym (same_goes_on prefix taken_events alike start most)
+          ∙ ap (λ (i : Item ReadRequest). is_decided i || goes_up_over start most prefix) is in
+          let connected : goes_on_at events start most ≡ Some come =
           least_at test b.from come (length events) b.within (front_length prefix events is_front) b.waits here in
-          let way : goes_up_over terms start flow.request most taken_events ≡ false =
-          sym (same_goes_up prefix taken_events alike terms start flow.request most) ∙ (goes_seen terms at flow most since opened used up b.from left prefix ∙ kept) in
+          let way : goes_up_over start most taken_events ≡ false =
+          sym (same_goes_up prefix taken_events alike start most) ∙ kept in
           let after : items_after bytes ≡ request_items (client_bytes events (used.client + size)) =
           after_on terms.place bytes head body trailers size flow.request item accepted
           ∙ ap (λ l. request_items l) (drop-drop size used.client (bytes_of Client events)) in
           let F = further_after terms events all flows used.client in
-          let ends_here : List Command = said_kept terms events (start_of at opened (used.client + size) (parked_used at used) b.from replies) whole.request come
-          (further_behind terms events all flows (used.client + size)) in
-          let on : said_request terms events start flow.request most (request_item bytes) (goes_on_at terms events start flow.request most) F ≡ ends_here =
-          ap (λ i. said_request terms events start flow.request most i (goes_on_at terms events start flow.request most) F) item
+          let side = parked_for terms.place whole.request at_there.parked in
+          let behind : Start = start_of at b.waiting (used.client + size) b.from replies in
+          let to : side_over terms.place behind whole.request taken_events ≡ side =
+          kept_side at.parked since opened used up prefix b.waiting terms.place at whole.request (used.client + size) b.from replies taken_events alike b.keeps in
+          let ends_here : List Command = said_to terms events behind None whole.request come side (further_behind terms events all flows (used.client + size)) in
+          let on : said_request terms events start flow.request most (request_item bytes) (goes_on_at events start most) F ≡ ends_here =
+          ap (λ i. said_request terms events start flow.request most i (goes_on_at events start most) F) item
           ∙ (ap (λ o. said_request terms events start flow.request most (complete head body trailers size) o F) connected
           ∙ (ap (λ w. said_way w terms events start flow.request (complete head body trailers size) come F) way
-          ∙ ap (λ l. said_kept terms events (start_of at opened (used.client + size) (parked_used at used) b.from replies) whole.request come (λ next. sent_from terms events next (take flows l))) after)) in
+          ∙ (ap (λ l. said_kept terms events behind whole.request come (λ next. sent_from terms events next (take flows l))) after
+          ∙ ap (λ o. said_to terms events behind None whole.request come o (further_behind terms events all flows (used.client + size))) to))) in
           let P : Taken Request → Type 0 = λ t.
-          Leads flows (turn_taken_body terms.place at whole t moment seen) opened (behind_item (complete head body trailers size)) 0 prefix sent [] asked waits rest value replies in
+          Leads flows (turn_taken_body terms.place at_there whole t moment seen) opened (behind_item (complete head body trailers size)) 0 prefix sent strayed asked waits rest value replies in
           let led : P (taken.GoesOn whole.request) = λ on_it.
-          side_led flows (parked_for terms.place whole.request at.parked) at whole opened used size b.from sent waits rest replies prefix refl
+          side_led flows side at_there whole opened used size b.from b.waiting sent strayed quiet waits rest replies prefix
+          (λ server. kept_served at.parked since opened used up prefix b.waiting terms.place whole.request server b.keeps)
           (rest_is all sent _ ends_here b.rest on) on_it.1 in
           subst P (sym (takes_request_body whole value goes.0)) led goes
 
       whole_led : (head : ReadRequest) (body : Body) (trailers : List (List ℕ × List ℕ)) (size : ℕ) → request_in seen ≡ complete head body trailers size →
-          Leads flows (turn_body terms.place at flow (complete head body trailers size) seen answer) opened behind_body 0 prefix sent []
+          Leads flows (turn_body terms.place at_there flow (complete head body trailers size) seen answer) opened behind_body 0 prefix sent strayed
           (ask_of (with_body flow body.content trailers seen.now) RequestBody) waits rest value replies
       whole_led head body trailers size is =
           let P : Item ReadRequest → Type 0 = λ i.
-          Leads flows (turn_body terms.place at flow (complete head body trailers size) seen answer) opened (behind_item i) 0 prefix sent []
+          Leads flows (turn_body terms.place at_there flow (complete head body trailers size) seen answer) opened (behind_item i) 0 prefix sent strayed
           (ask_of (with_body flow body.content trailers seen.now) RequestBody) waits rest value replies in
           subst P (sym is) (whole_there head body trailers size is)
 
       pub body_led : (item : Item ReadRequest) → request_in seen ≡ item →
           or_leaves seen.closed leaving (look_body flow item seen.now parked seen.closed) ≡ Asks ask →
-          Leads flows (turn_body terms.place at flow item seen answer) opened behind_body 0 prefix sent [] ask waits rest value replies
+          Leads flows (turn_body terms.place at_there flow item seen answer) opened behind_body 0 prefix sent strayed ask waits rest value replies
       body_led missing is asks = absurd (asks_nothing seen.closed leaving ask asks)
       body_led (part head body) is asks = absurd (asks_nothing seen.closed leaving ask asks)
       body_led (complete head body trailers size) is asks =
-          let P : Command → Type 0 = λ c. Leads flows (turn_body terms.place at flow (complete head body trailers size) seen answer) opened behind_body 0 prefix sent [] c waits rest value replies in
+          let P : Command → Type 0 = λ c. Leads flows (turn_body terms.place at_there flow (complete head body trailers size) seen answer) opened behind_body 0 prefix sent strayed c waits rest value replies in
           subst P (asks_same _ ask asks) (whole_led head body trailers size is)
       body_led (bad_head fault) is asks = absurd (asks_nothing seen.closed leaving ask asks)
       body_led (bad_body fault head body) is asks = absurd (ends_ask _ ask asks)
@@ -305,30 +307,30 @@ module _ (terms : Terms) (events : List (Timed Event)) (all : List Command) wher
 
     -- what the answer of a dial brings, behind the close of the parked side
     abbrev dial_turned : Sent → Flow → Reply → Turn Stage Command
-    dial_turned how flow answered = behind_these (shut_server parked) (turn_dial terms.place at flow how (record { moment = moment; value = answered }) seen.closed)
+    dial_turned how flow answered = behind_these (shut_server parked) (turn_dial terms.place at_there flow how (record { moment = moment; value = answered }) seen.closed)
 
     -- of the new side no byte was used
     abbrev behind_dial : Stage → UsedBytes
     behind_dial stage = record { client = used.client; server = 0 }
 
     abbrev Connects_to : Sent → Flow → List Reply → Type 0
-    Connects_to how flow told = Connecting terms events all flows how at flow.request opened used.client (parked_used at used) up prefix sent told
+    Connects_to how flow told = Connecting terms events all flows how at flow.request used up prefix sent told
 
     -- what is left of the response, where the server is new
-    abbrev there_left : Sent → Flow → ℕ → List Command
-    there_left how flow from =
+    abbrev there_left : Sent → Flow → List Command
+    there_left how flow =
         answers_left terms (down_of terms events all flows how flow.request at.dials (length prefix) (record { client = used.client; server = 0 }) (length prefix))
-        (record at { dials = at.dials + 1; parked = None }) (length prefix) from flow.request replies
+        (record at { dials = at.dials + 1; parked = None }) flow.request replies
 
     dialled_led : (how : Sent) (flow : Flow) → Connects_to how flow (reply.Dialled ∷ replies) →
-        Leads flows (dial_turned how flow reply.Dialled) (length prefix) behind_dial 0 prefix sent [] (commands.Dial at.dials (dialled_for terms.place flow.request) None) waits rest reply.Dialled replies
+        Leads flows (dial_turned how flow reply.Dialled) (length prefix) behind_dial 0 prefix sent strayed (commands.Dial at.dials (dialled_for terms.place flow.request) None) waits rest reply.Dialled replies
     dialled_led all_sent flow c goes =
         let dial = commands.Dial at.dials (dialled_for terms.place flow.request) None in
         let text = onward_text (form_at terms.place) flow.request in
         let send = commands.Send (Server at.dials) text in
         let owed = shut_server parked ++ send ∷ [] in
         let sends = says_sent (shut_server parked) (Server at.dials) text (says_server parked) in
-        on_led (dial_turned all_sent flow reply.Dialled) (length prefix) behind_dial 0 prefix sent [] dial waits rest replies flows refl
+        on_led (dial_turned all_sent flow reply.Dialled) (length prefix) behind_dial 0 prefix sent strayed dial waits rest replies flows refl
         sends.keeps (none_both (shut_server parked) (send ∷ []) (closes_none (shut_server parked) (server_closes parked)) tt)
         (record {
           went = length prefix;
@@ -336,10 +338,9 @@ module _ (terms : Terms) (events : List (Timed Event)) (all : List Command) wher
             within = omega arith;
             waits = λ k low high. absurd (omega arith);
           };
-          from = c.from;
           goes = tt;
           calm = inl refl;
-          rest = rest_on all sent (dial ∷ owed) (dial ∷ send ∷ []) _ (there_left all_sent flow c.from) c.rest (ap (λ l. dial ∷ l) sends.is) refl;
+          rest = rest_behind all sent strayed (dial ∷ owed) (dial ∷ send ∷ []) _ (there_left all_sent flow) c.rest quiet (ap (λ l. dial ∷ l) sends.is) refl;
         }) goes.1
     dialled_led going_up flow c goes =
         let dial = commands.Dial at.dials (dialled_for terms.place flow.request) None in
@@ -348,7 +349,7 @@ module _ (terms : Terms) (events : List (Timed Event)) (all : List Command) wher
         let same : owed ≡ shut_server parked = append-nil (shut_server parked) in
         let keeps : (more : ℕ) (rest : List Command) → first_flows (suc more) (owed ++ rest) ≡ owed ++ first_flows (suc more) rest = λ more rest.
         ap (λ l. first_flows (suc more) (l ++ rest)) same ∙ ((says_server parked).keeps more rest ∙ ap (λ l. l ++ first_flows (suc more) rest) (sym same)) in
-        on_led (dial_turned going_up flow reply.Dialled) (length prefix) behind_dial 0 prefix sent [] dial waits rest replies flows refl
+        on_led (dial_turned going_up flow reply.Dialled) (length prefix) behind_dial 0 prefix sent strayed dial waits rest replies flows refl
         keeps (none_both (shut_server parked) [] (closes_none (shut_server parked) (server_closes parked)) tt)
         (record {
           went = length prefix;
@@ -356,16 +357,15 @@ module _ (terms : Terms) (events : List (Timed Event)) (all : List Command) wher
             within = omega arith;
             waits = λ k low high. absurd (omega arith);
           };
-          from = c.from;
           goes = record { told = omega arith; plain = c.plain };
           calm = inr (new_missing flow.request at.dials prefix);
-          rest = rest_on all sent (dial ∷ owed) (dial ∷ []) _ _ c.rest (ap (λ l. dial ∷ l) closes) refl;
+          rest = rest_behind all sent strayed (dial ∷ owed) (dial ∷ []) _ _ c.rest quiet (ap (λ l. dial ∷ l) closes) refl;
         }) goes.1
 
     -- a refusal says the same of both
     refused_led : (how : Sent) (flow : Flow) (fault : Fault) → Connects_to how flow (reply.Refused fault ∷ replies) →
-        (turn_dial terms.place at flow how (record { moment = moment; value = reply.Refused fault }) seen.closed).owed ≡ ends_by_fault flow fault moment NoServer seen.closed →
-        Leads flows (dial_turned how flow (reply.Refused fault)) (length prefix) behind_dial 0 prefix sent [] (commands.Dial at.dials (dialled_for terms.place flow.request) None) waits rest
+        (turn_dial terms.place at_there flow how (record { moment = moment; value = reply.Refused fault }) seen.closed).owed ≡ ends_by_fault flow fault moment NoServer seen.closed →
+        Leads flows (dial_turned how flow (reply.Refused fault)) (length prefix) behind_dial 0 prefix sent strayed (commands.Dial at.dials (dialled_for terms.place flow.request) None) waits rest
         (reply.Refused fault) replies
     refused_led how flow fault c is goes =
         let texts = fault_said fault (is_head flow.request.method) in
@@ -376,17 +376,17 @@ module _ (terms : Terms) (events : List (Timed Event)) (all : List Command) wher
         let owed_is : turned.owed ≡ shut_server parked ++ ends_by_fault flow fault moment NoServer seen.closed = ap (λ l. shut_server parked ++ l) is in
         let S : List Command → Type 0 = λ l. SaysEnd l texts in
         let says : S turned.owed = subst S (sym owed_is) (end_of (shut_server parked ++ ends_by_fault flow fault moment NoServer seen.closed) texts ends) in
-        let is_all : Rest all (sent ++ dial ∷ turned.owed) [] =
-        rest_on all sent (dial ∷ turned.owed) (dial ∷ texts) _ [] c.rest (ap (λ l. dial ∷ l) says.is) (sym (append-nil (dial ∷ texts))) in
-        ending_led turned (length prefix) behind_dial 0 prefix sent [] dial waits rest replies flows texts refl says
-        (none_both (shut_server parked) (turn_dial terms.place at flow how (record { moment = moment; value = reply.Refused fault }) seen.closed).owed
+        let is_all : Rest all (sent ++ (strayed ++ dial ∷ turned.owed)) [] =
+        rest_behind all sent strayed (dial ∷ turned.owed) (dial ∷ texts) _ [] c.rest quiet (ap (λ l. dial ∷ l) says.is) (sym (append-nil (dial ∷ texts))) in
+        ending_led turned (length prefix) behind_dial 0 prefix sent strayed dial waits rest replies flows texts refl says
+        (none_both (shut_server parked) (turn_dial terms.place at_there flow how (record { moment = moment; value = reply.Refused fault }) seen.closed).owed
         (closes_none (shut_server parked) (server_closes parked))
-        (ends_none (turn_dial terms.place at flow how (record { moment = moment; value = reply.Refused fault }) seen.closed).owed
+        (ends_none (turn_dial terms.place at_there flow how (record { moment = moment; value = reply.Refused fault }) seen.closed).owed
         (turns_in_order terms (busy at flow (connection how)) seen (record { moment = moment; value = reply.Refused fault }))))
         (λ none. is_all) (λ more is. record { is_all = is_all }) goes.1
 
     answered_led : (how : Sent) (flow : Flow) (answered : Reply) → Connects_to how flow (answered ∷ replies) →
-        Leads flows (dial_turned how flow answered) (length prefix) behind_dial 0 prefix sent [] (commands.Dial at.dials (dialled_for terms.place flow.request) None) waits rest answered replies
+        Leads flows (dial_turned how flow answered) (length prefix) behind_dial 0 prefix sent strayed (commands.Dial at.dials (dialled_for terms.place flow.request) None) waits rest answered replies
     answered_led how flow reply.Dialled c = dialled_led how flow c
     answered_led all_sent flow (reply.Refused fault) c = refused_led all_sent flow fault c refl
     answered_led going_up flow (reply.Refused fault) c = refused_led going_up flow fault c refl
@@ -397,7 +397,7 @@ module _ (terms : Terms) (events : List (Timed Event)) (all : List Command) wher
 
     pub dial_led : (how : Sent) (flow : Flow) → Connects_to how flow left →
         or_leaves seen.closed leaving (Asks (commands.Dial at.dials (dialled_for terms.place flow.request) None)) ≡ Asks ask →
-        Leads flows (dial_turned how flow value) (length prefix) behind_dial 0 prefix sent [] ask waits rest value replies
+        Leads flows (dial_turned how flow value) (length prefix) behind_dial 0 prefix sent strayed ask waits rest value replies
     dial_led how flow c asks =
-        let P : Command → Type 0 = λ d. Leads flows (dial_turned how flow value) (length prefix) behind_dial 0 prefix sent [] d waits rest value replies in
+        let P : Command → Type 0 = λ d. Leads flows (dial_turned how flow value) (length prefix) behind_dial 0 prefix sent strayed d waits rest value replies in
         subst P (asks_same _ ask asks) (answered_led how flow value c)

@@ -16,9 +16,10 @@ use Rattle.px_exchange.specs.EndOrder.{FoundInOrder, OnlyCloses}
 use Rattle.px_exchange.specs.declared.terms.Terms.{Terms}
 use Rattle.px_exchange.specs.Endings.{ends_by_fault}
 use Rattle.px_exchange.specs.Finds.{look_answer, look_returned}
-use Rattle.px_chain.specs.Behind.{dials_at, used_by_turn}
+use Rattle.px_chain.specs.Behind.{dials_at, used_behind, used_by_turn}
 use Rattle.px_chain.specs.Chain.{behind, http_chain, is_sequence, leaves, leaving, look, opened_by, pass, sequence, so_far, turn, used_by_pass}
 use Rattle.px_chain.specs.Going.{told_behind}
+use Rattle.px_chain.specs.Keeping.{unspoilt_at}
 use Rattle.px_chain.specs.Sights.{Sight, Standing, UsedBytes, answers_in, request_in, server_in, sight_of, sight_over}
 use Rattle.px_chain.specs.Stages.{At, Stage, busy, coming_down, connection, given_body, given_head, idle, next, over, request_body, response_body, response_head, side_of, side_parked, upgraded}
 use Rattle.px_chain.specs.Streams.{Since, client_closed}
@@ -29,15 +30,15 @@ use Rattle.px_said.specs.ClosedForm.{first_flows, flows_behind, said}
 use Rattle.px_said.specs.Lines.{AllGoOn, sent_of_flows}
 use Rattle.px_said.specs.Walks.{Walk, answered, due_from, heard, start_at}
 use Rattle.px_said.proofs.ClosedFronts.{IsFront, IsSame, front_of, same_of, still_open}
-use Rattle.px_said.proofs.ClosedLooks.{IsLast}
-use Rattle.px_said.proofs.ClosedQuiet.{closes_said, end_said, said_join}
-use Rattle.px_said.proofs.ClosedTurns.{behind_these, ends_ask}
-use Rattle.px_said.proofs.ClosedWalk.{reach_behind, walk_behind, with_these}
+use Rattle.px_said.proofs.ClosedLooks.{IsLast, behind_these, ends_ask}
+use Rattle.px_said.proofs.ClosedQuiet.{closes_said, end_said, said_join, says_waiting}
+use Rattle.px_said.proofs.LineKept.{kept_first}
 use Rattle.px_said.proofs.LineMore.{begun_settled, body_settled, stage_more, stage_stood}
 use Rattle.px_said.proofs.LinePasses.{Passed, passed_on, passed_over, stage_passed}
-use Rattle.px_said.proofs.LineQuiet.{NoQuestion, Rest, ends_none, none_both, sends_keep, sends_none, skips, so_far_sends}
+use Rattle.px_said.proofs.LineQuiet.{NoQuestion, Rest, ends_none, none_both, skips, so_far_keeps, so_far_none}
 use Rattle.px_said.proofs.LineReturns.{answer_led, returned_led, up_asked}
 use Rattle.px_said.proofs.LineStages.{IsAt}
+use Rattle.px_said.proofs.WalkLemmas.{reach_behind, walk_behind, with_these}
 use Rattle.px_said.proofs.LineTurns.{Leads, Led, body_led, dial_led, goes_on, has_ended, idle_led}
 
 -- what is found says the same up to the end of a flow, and the closes behind an ask say nothing
@@ -67,14 +68,18 @@ module _ (terms : Terms) (events : List (Timed Event)) (all : List Command) wher
       (so_far terms stage seen) ask may_wait rest value replies
   stage_led flows (idle at) since opened used up prefix is sent replies value settled stands moment ask may_wait rest asks =
       let seen = sight_of (side_parked at.parked) since opened used up prefix in
-      idle_led terms events all flows sent moment value may_wait rest replies since opened used up prefix is ask (leaving (idle at) seen) at (request_in seen) refl stands asks
+      idle_led terms events all flows sent moment value may_wait rest replies since opened used up prefix is ask (leaving (idle (unspoilt_at at seen)) seen) at
+      (so_far terms (idle at) seen) (says_waiting (idle at) seen).is (request_in seen) refl stands asks
   stage_led flows (busy at flow (request_body None most)) since opened used up prefix is sent replies value settled stands moment ask may_wait rest asks =
       let seen = sight_of (side_parked at.parked) since opened used up prefix in
-      body_led terms events all flows sent moment value may_wait rest replies since opened used up prefix is ask (leaving (busy at flow (request_body None most)) seen) at flow most
+      body_led terms events all flows sent moment value may_wait rest replies since opened used up prefix is ask
+      (leaving (busy (unspoilt_at at seen) flow (request_body None most)) seen) at (so_far terms (busy at flow (request_body None most)) seen) (says_waiting (busy at flow (request_body None most)) seen).is flow most
       (begun_settled terms at flow most seen settled) stands (request_in seen) refl asks
   stage_led flows (busy at flow (request_body (Some response) most)) since opened used up prefix is sent replies value settled stands moment ask may_wait rest asks = absurd stands
   stage_led flows (busy at flow (connection how)) since opened used up prefix is sent replies value settled stands moment ask may_wait rest asks =
-      dial_led terms events all flows sent moment value may_wait rest replies since opened used up prefix is ask [] at how flow stands asks
+      let seen = sight_of (side_parked at.parked) since opened used up prefix in
+      dial_led terms events all flows sent moment value may_wait rest replies since opened used up prefix is ask [] at (so_far terms (busy at flow (connection how)) seen)
+      (says_waiting (busy at flow (connection how)) seen).is how flow stands asks
   stage_led flows (busy at flow (response_head side how)) since opened used up prefix is sent replies value settled stands moment ask may_wait rest asks =
       let seen = sight_of (Some side) since opened used up prefix in
       let both = up_asked terms events all flows how flow.request side opened used up 0 since prefix seen.closed (leaves at flow (response_head side how) seen)
@@ -221,7 +226,7 @@ module _ (terms : Terms) (events : List (Timed Event)) (all : List Command) wher
   owed_said flows stage seen =
       let waits = so_far terms stage seen in
       let finds = found_with (behind stage seen) (look terms stage seen) in
-      ap said (sends_keep waits (so_far_sends terms stage seen) flows finds)
+      ap said (so_far_keeps terms stage seen flows finds)
       ∙ (said_join waits (first_flows (suc flows) finds)
       ∙ (ap (λ l. said waits ++ l) (found_said flows (behind stage seen) (look terms stage seen) (behind_closes stage seen) (looks_in_order terms stage seen))
       ∙ sym (said_join waits (found (look terms stage seen)))))
@@ -277,16 +282,15 @@ module _ (terms : Terms) (events : List (Timed Event)) (all : List Command) wher
       let so_far_there = chain.so_far place here.prefix in
       let parts = chain.behind place here.prefix in
       let tail = first_flows (flows_behind more ask) parts in
-      let sends = so_far_sends terms place.stage seen in
       let cut : first_flows (suc flows) (here.before ++ (so_far_there ++ (ask ∷ parts))) ≡ here.before ++ (so_far_there ++ (ask ∷ tail)) =
-      keeps (so_far_there ++ (ask ∷ parts)) ∙ ap (λ l. here.before ++ l) (sends_keep so_far_there sends more (ask ∷ parts)) in
+      keeps (so_far_there ++ (ask ∷ parts)) ∙ ap (λ l. here.before ++ l) (so_far_keeps terms place.stage seen more (ask ∷ parts)) in
       let B : Bool → Type 0 = λ b. AllGoOn b (first_flows (suc flows) (here.before ++ (so_far_there ++ found_with parts (chain.look place here.prefix)))) [] in
       let L : Look Command → Type 0 = λ l. AllGoOn false (first_flows (suc flows) (here.before ++ (so_far_there ++ found_with parts l))) [] in
       let G : List Command → Type 0 = λ l. AllGoOn false l [] in
       let question : AllGoOn false (here.before ++ (so_far_there ++ (ask ∷ tail))) [] = subst G cut (subst L asks (subst B strict goes)) in
       (stage_stood terms events all more here.prefix front place.stage place.since place.opened place.used place.told (sent ++ here.before) left stands (settled_stage place here.prefix settled)).here.asks ask asks
       (waits_alone ask tail
-      (skips so_far_there (sends_none so_far_there sends) false (ask ∷ tail) [] (skips here.before quiet false (so_far_there ++ (ask ∷ tail)) [] question)))
+      (skips so_far_there (so_far_none terms place.stage seen) false (ask ∷ tail) [] (skips here.before quiet false (so_far_there ++ (ask ∷ tail)) [] question)))
 
   -- where a reply led
   led_result : (flows : ℕ) (turned : Turn Stage Command) (opened : ℕ) (used : Stage → UsedBytes) (up : ℕ) (prefix : List (Timed Event)) (sent so_far : List Command) (ask : Command) (may_wait : Bool)
@@ -342,7 +346,6 @@ module _ (terms : Terms) (events : List (Timed Event)) (all : List Command) wher
       let so_far_there = chain.so_far place here.prefix in
       let brought = chain.behind place here.prefix ++ on.owed in
       let before = sent ++ here.before in
-      let sends = so_far_sends terms place.stage seen in
       walk_by_sent flows may_wait (chain.look place here.prefix) _ _ sent (r.value ∷ replies)
       (λ ask asks goes_there.
       let more_due = so_far_there ++ ask ∷ brought in
@@ -353,10 +356,10 @@ module _ (terms : Terms) (events : List (Timed Event)) (all : List Command) wher
       let cut : first_flows (suc flows) (owed_at chain (walk chain rs r.stamp (here.before ++ more_due) on.stage here.prefix here.rest)) ≡ here.before ++ (so_far_there ++ (ask ∷ left_there)) =
       ap (first_flows (suc flows)) split
       ∙ (keeps (more_due ++ tail)
-      ∙ ap (λ l. here.before ++ l) (ap (first_flows (suc more)) (append_assoc so_far_there (ask ∷ brought) tail) ∙ sends_keep so_far_there sends more (ask ∷ (brought ++ tail)))) in
+      ∙ ap (λ l. here.before ++ l) (ap (first_flows (suc more)) (append_assoc so_far_there (ask ∷ brought) tail) ∙ so_far_keeps terms place.stage seen more (ask ∷ (brought ++ tail)))) in
       let G : List Command → Type 0 = λ l. AllGoOn may_wait l (r.value ∷ replies) in
       let question : AllGoOn may_wait (ask ∷ left_there) (r.value ∷ replies) =
-      skips so_far_there (sends_none so_far_there sends) may_wait (ask ∷ left_there) (r.value ∷ replies)
+      skips so_far_there (so_far_none terms place.stage seen) may_wait (ask ∷ left_there) (r.value ∷ replies)
       (skips here.before quiet may_wait (so_far_there ++ (ask ∷ left_there)) (r.value ∷ replies) (subst G cut goes_there)) in
       let led = stage_led more place.stage place.since place.opened place.used place.told here.prefix (front_in here.prefix here.rest whole) before replies r.value
       (settled_stage place here.prefix settled) stands r.stamp.moment ask may_wait tail asks question in
@@ -404,6 +407,8 @@ result_from may_wait terms here at (suc flows) is goes =
     let P : Stage → Type 0 = λ stage. IsAt terms events all flows stage here.place.opened here.place.used here.place.told here.prefix [] (answered here) in
     let stands : P (idle at) = record {
       from = length here.prefix;
+      waiting = record { parked = at.parked; opened = here.place.opened; used = used_behind false (side_parked at.parked) here.place.used.server };
+      keeps = kept_first at.parked here.place.opened here.place.used.server here.prefix;
       within = omega arith;
       waits = λ k low high. absurd (omega arith);
       rest = record { seen = λ view. refl };

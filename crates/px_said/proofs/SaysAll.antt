@@ -1,5 +1,5 @@
 -- The texts of the closed form say what was read, one message behind the other.
-use Rattle.std.proofs.Common.{◌≡◌, ◌≢◌, ℕ, zero, suc, ◌+◌, Bool, true, false, List, [], ◌∷◌, ◌++◌, map, drop, Option, Some, None, refl, ap, sym, ◌∙◌, subst, inl, inr, append_assoc}
+use Rattle.std.proofs.Common.{◌≡◌, ◌≢◌, ℕ, zero, suc, ◌+◌, Bool, true, false, List, [], ◌∷◌, ◌++◌, map, drop, Option, Some, None, refl, ap, sym, subst, inl, inr, append_assoc}
 use Rattle.std.specs.Prelude.{All, ⊤, take}
 use Rattle.std.proofs.lemmas.List.Elements.{All-cons, All-head, All-nil, All-tail}
 use Rattle.px_message.specs.declared.fault.Fault.{Fault}
@@ -27,12 +27,13 @@ use Rattle.px_exchange.specs.declared.asked.Judged.TheVariants.{Refused, Accepte
 use Rattle.px_exchange.specs.declared.place.Place.{Place}
 use Rattle.px_exchange.specs.declared.place.Place.TheVariants as places
 use Rattle.px_exchange.specs.declared.terms.Terms.{Terms}
-use Rattle.px_said.specs.ClosedForm.{GoesOn, Point, Served, behind_request, connected_at, ended_at, fault_said, first_flows, next_point, request_items, said, said_answers, said_behind, said_by, said_connected, said_dialled, said_final, said_from, said_item, said_judged, said_of_flows, said_on, said_relayed, said_returned, said_served, whole_request, without_parked}
+use Rattle.px_said.specs.ClosedForm.{GoesOn, Point, Served, answers_at, behind_request, connected_at, ended_at, fault_said, first_flows, next_point, request_items, said, said_answers, said_behind, said_by, said_connected, said_dialled, said_final, said_from, said_item, said_judged, said_of_flows, said_on, said_relayed, said_returned, said_served, still_parked, whole_request}
 use Rattle.px_chain.specs.Chain.{parked_for, side_if}
+use Rattle.px_chain.specs.Sights.{used_by_answers}
 use Rattle.px_chain.specs.Stages.{At, Parked, idle}
 use Rattle.px_chain.specs.Streams.{bytes_of, is_closed}
 use Rattle.px_said.specs.Walks.{Walk, answered, due_from, heard, point_at}
-use Rattle.px_said.specs.WhatWasRead.{Here, IsOwn, Message, SayWhatWasRead, a_final_response, an_interim_response, answers_read, behind_by, final_read, here_of, interim_known, messages_at, messages_behind, messages_from, messages_of, messages_once, messages_read, parked_by, served_by}
+use Rattle.px_said.specs.WhatWasRead.{Here, IsOwn, Message, SayWhatWasRead, a_final_response, an_interim_response, answers_read, final_read, here_of, interim_known, messages_at, messages_behind, messages_from, messages_of, messages_once, messages_read, next_dialled, parked_by, parked_read, served_by}
 use Rattle.px_said.proofs.ClosedWalk.{said_begins}
 use Rattle.px_said.proofs.PartsRead.{IsInterimRead, IsRead, interim_read, list_read}
 use Rattle.px_said.proofs.SaysRequests.{accepted, says_made}
@@ -149,70 +150,92 @@ module _ (terms : Terms) (events : List (Timed Event)) where
   abbrev GoOn : (Point → List Command) → (Here → List Message) → Type 0
   GoOn further messages = (next : Point) → Say (further next) (messages (here_of next))
 
-  behind_say : (goes : Bool) (point : Point) (ended : Option ℕ) (further : Point → List Command) (messages : Here → List Message) → GoOn further messages
-      → Say (said_behind goes point ended further) (messages_behind ended (λ ended. messages (here_of (next_point point ended))))
-  behind_say true point (Some ended) further messages on = on (next_point point ended)
-  behind_say true point None further messages on = tt
-  behind_say false point ended further messages on = tt
+  behind_say : (goes : Bool) (ended : Option ℕ) (further : ℕ → List Command) (messages : ℕ → List Message) → ((so_many : ℕ) → Say (further so_many) (messages so_many))
+      → Say (said_behind goes ended further) (messages_behind ended messages)
+  behind_say true (Some ended) further messages on = on ended
+  behind_say true None further messages on = tt
+  behind_say false ended further messages on = tt
 
   -- a request that was read whole
   module _ (bytes : List ℕ) (head : RequestHead) (body : Body) (trailers : List (List ℕ × List ℕ)) (used : ℕ)
       (whole : request_item bytes ≡ complete head body trailers used) (further : Point → List Command) (messages : Here → List Message) (on : GoOn further messages) where
+    -- where the next request stands, by what came of this one's head, and what is read of this one and behind it
+    abbrev next_here : Judged → Here → Option ℕ → Served → ℕ → Here
+    next_here made here side served ended =
+        let answers = answers_at events served.server served.opened served.used (is_head head.method) in record {
+          server = next_dialled here.server side;
+          bytes = here.bytes + used;
+          events = ended;
+          parked = parked_read terms.place made body trailers answers.final served.server;
+          opened = served.opened;
+          used = used_by_answers answers served.used;
+        }
+
+    abbrev read_by : Judged → Point → ℕ → Option ℕ → List Message
+    read_by made point come side =
+        let served = served_by (here_of point) come side in
+        messages_at events served head body trailers (λ ended. messages (next_here made (here_of point) side served ended))
+
+    abbrev read_once : Judged → Point → Option ℕ → List Message
+    read_once made point None = []
+    read_once made point (Some come) =
+        read_by made point come (parked_by terms.place made (still_parked (take come events) point.parked point.opened point.used))
+
     module _ (address : Address) (path : List ℕ) (no_connect : head.method ≢ connect_method)
         (goal : goal_at terms.place (target_form head.method head.target) ≡ Some (address, path)) where
+      abbrev first : Request
+      first = request_of address head path no_connect
+
       abbrev asked : Request
-      asked = whole_request (request_of address head path no_connect) body trailers
+      asked = whole_request first body trailers
 
-      served_say : (point : Point) (served : Served) → Say (said_served terms events point served further asked)
-          (messages_at events served head body trailers (λ ended. messages (here_of (next_point point ended))))
-      served_say point served = inr (
-        (refl, says_made terms.place bytes head body trailers used whole address path no_connect goal),
-        answers_say terms.place asked (is_closed (Server served.server) (drop served.opened events))
-            (drop served.used (bytes_of (Server served.server) (drop served.opened events)))
-            (said_on events point served further asked)
-            (messages_behind (ended_at events served (is_head head.method)) (λ ended. messages (here_of (next_point point ended))))
-            (λ response. behind_say _ point (ended_at events served (is_head head.method)) further messages on),
-      )
+      served_say : (point : Point) (served : Served) → let answers = answers_at events served.server served.opened served.used (is_head head.method) in
+          Say (said_served terms events point served further asked)
+          (messages_at events served head body trailers (λ ended. messages (here_of (next_point terms.place point served asked answers ended))))
+      served_say point served =
+          let answers = answers_at events served.server served.opened served.used (is_head head.method) in
+          let next : ℕ → Point = λ ended. next_point terms.place point served asked answers ended in
+          inr (
+            (refl, says_made terms.place bytes head body trailers used whole address path no_connect goal),
+            answers_say terms.place asked (is_closed (Server served.server) (drop served.opened events))
+                (drop served.used (bytes_of (Server served.server) (drop served.opened events)))
+                (said_on terms.place events point served further asked)
+                (messages_behind (ended_at events served (is_head head.method)) (λ ended. messages (here_of (next ended))))
+                (λ response. behind_say _ (ended_at events served (is_head head.method)) (λ ended. further (next ended)) (λ ended. messages (here_of (next ended))) (λ ended. on (next ended))),
+          )
 
-      dialled_say : (point : Point) (come : ℕ) (dials : List (Option Fault)) → Say (said_dialled terms events (without_parked (behind_request point used)) asked come dials further)
-          (messages_at events (served_by (here_of point) come None) head body trailers (λ ended. messages (behind_by (here_of point) used come ended None)))
+      dialled_say : (point : Point) (come : ℕ) (dials : List (Option Fault)) →
+          Say (said_dialled terms events (behind_request point used) asked come dials further) (read_by (Accepted first) point come None)
       dialled_say point come [] = tt
       dialled_say point come (Some fault ∷ dials) =
-          own_say terms.place (fault_said fault (is_head head.method))
-          (messages_at events (served_by (here_of point) come None) head body trailers (λ ended. messages (behind_by (here_of point) used come ended None)))
-          (fault_own fault (is_head head.method))
+          own_say terms.place (fault_said fault (is_head head.method)) (read_by (Accepted first) point come None) (fault_own fault (is_head head.method))
       dialled_say point come (None ∷ dials) =
-          served_say (record (behind_request point used) { server = point.server + 1; dials = dials; parked = None; opened = come; used = 0 })
-          (record { server = point.server; opened = come; used = 0; went = come })
+          served_say (record (behind_request point used) { server = point.server + 1; dials = dials }) (record { server = point.server; opened = come; used = 0; went = come })
 
-      by_say : (point : Point) (come : ℕ) (side : Option ℕ) → Say (said_by terms events (behind_request point used) asked come side further)
-          (messages_at events (served_by (here_of point) come side) head body trailers (λ ended. messages (behind_by (here_of point) used come ended side)))
+      by_say : (point : Point) (come : ℕ) (side : Option ℕ) →
+          Say (said_by terms events (behind_request point used) asked come side further) (read_by (Accepted first) point come side)
       by_say point come None = inl (tt, dialled_say point come point.dials)
-      by_say point come (Some server) =
-          served_say (without_parked (behind_request point used)) (record { server = server; opened = point.opened; used = point.used; went = come })
+      by_say point come (Some server) = served_say (behind_request point used) (record { server = server; opened = point.opened; used = point.used; went = come })
 
-      connected_say : (point : Point) (come : Option ℕ) → parked_by terms.place (judged terms.place head) point.parked ≡ parked_for terms.place asked point.parked
-          → Say (said_connected terms events (behind_request point used) asked come further)
-          (messages_once terms.place events (here_of point) head body trailers used come messages)
-      connected_say point None same = tt
-      connected_say point (Some come) same =
-          let P : Option ℕ → Type 0 = λ side. Say (said_connected terms events (behind_request point used) asked (Some come) further)
-          (messages_at events (served_by (here_of point) come side) head body trailers (λ ended. messages (behind_by (here_of point) used come ended side))) in
-          subst P (sym same) (by_say point come (parked_for terms.place asked point.parked))
+      connected_say : (point : Point) (come : Option ℕ) → Say (said_connected terms events (behind_request point used) asked come further) (read_once (Accepted first) point come)
+      connected_say point None = tt
+      connected_say point (Some come) =
+          let parked = still_parked (take come events) point.parked point.opened point.used in
+          let P : Option ℕ → Type 0 = λ side. Say (said_connected terms events (behind_request point used) asked (Some come) further) (read_by (Accepted first) point come side) in
+          subst P (parked_whole terms.place first body trailers parked) (by_say point come (parked_for terms.place asked parked))
 
     whole_say : (point : Point) (come : Option ℕ) (request : Request) → judged terms.place head ≡ Accepted request
-        → Say (said_connected terms events (behind_request point used) (whole_request request body trailers) come further)
-        (messages_once terms.place events (here_of point) head body trailers used come messages)
+        → Say (said_connected terms events (behind_request point used) (whole_request request body trailers) come further) (read_once (judged terms.place head) point come)
     whole_say point come request is =
         let made = accepted terms.place head request is in
-        let P : Request → Type 0 = λ r. Say (said_connected terms events (behind_request point used) (whole_request r body trailers) come further)
-        (messages_once terms.place events (here_of point) head body trailers used come messages) in
-        let there : parked_by terms.place (judged terms.place head) point.parked ≡ parked_for terms.place request point.parked =
-        ap (λ j. parked_by terms.place j point.parked) is in
-        let first : Request = request_of made.address head made.path made.no_connect in
-        subst P made.is
-        (connected_say made.address made.path made.no_connect made.goal point come
-        (there ∙ (ap (λ r. parked_for terms.place r point.parked) (sym made.is) ∙ sym (parked_whole terms.place first body trailers point.parked))))
+        let P : Request → Type 0 = λ r. Say (said_connected terms events (behind_request point used) (whole_request r body trailers) come further) (read_once (Accepted r) point come) in
+        let J : Judged → Type 0 = λ j. Say (said_connected terms events (behind_request point used) (whole_request request body trailers) come further) (read_once j point come) in
+        subst J (sym is) (subst P made.is (connected_say made.address made.path made.no_connect made.goal point come))
+
+    -- that is what is read of it
+    once_read : (point : Point) (come : Option ℕ) → messages_once terms.place events (here_of point) head body trailers used come messages ≡ read_once (judged terms.place head) point come
+    once_read point None = refl
+    once_read point (Some come) = refl
 
     judged_say : (point : Point) (made : Judged) → judged terms.place head ≡ made
         → Say (said_judged terms events point head made (complete head body trailers used) further)
@@ -225,7 +248,8 @@ module _ (terms : Terms) (events : List (Timed Event)) where
         own_before terms.place (meets_expectation (expects head))
         (said_connected terms events (behind_request point used) (whole_request request body trailers) (connected_at events point) further)
         (messages_of terms.place events (here_of point) (complete head body trailers used) messages) (expectation_own (expects head))
-        (whole_say point (connected_at events point) request is)
+        (subst (Say (said_connected terms events (behind_request point used) (whole_request request body trailers) (connected_at events point) further))
+        (sym (once_read point (connected_at events point))) (whole_say point (connected_at events point) request is))
 
   -- a request whose body is not whole, or at fault
   part_say : (point : Point) (head : RequestHead) (body : Body) (made : Judged) (further : Point → List Command) (messages : List Message)

@@ -31,16 +31,15 @@ use Rattle.px_exchange.specs.declared.asked.Judged.{Judged}
 use Rattle.px_exchange.specs.declared.asked.Judged.TheVariants.{Refused, Accepted, Connects}
 use Rattle.px_exchange.specs.declared.place.Place.{Place}
 use Rattle.px_exchange.specs.declared.terms.Terms.{Terms}
-use Rattle.px_parts.specs.Streamed.{request_says, request_streams, streams_behind}
-use Rattle.px_chain.specs.Chain.{parked_for}
+use Rattle.px_parts.specs.Streamed.{request_says, streams_behind}
 use Rattle.px_chain.specs.Streams.{bytes_of}
-use Rattle.px_said.specs.ClosedForm.{fault_said, is_whole, request_items, said_final, said_relayed, said_returned, whole_request}
-use Rattle.px_said.specs.Lines.{Exchange, Start, Told, answers_to, behind_reply, client_bytes, comes_down, ends_at, ends_over, fault_up, goes_on_kept, goes_on_streamed, goes_up_over, heard_of, is_sent_over, next_allows, next_start, said_answered, said_down, said_exchange, said_head, said_next, said_request, said_start, said_to, said_way, sent_by, sent_from, sent_of_flows, streamed_request, text_by, text_up, unless_fault, until, used_by}
+use Rattle.px_said.specs.ClosedForm.{Told, fault_said, is_whole, request_items, said_behind, said_final, said_relayed, said_returned, whole_request}
+use Rattle.px_said.specs.Lines.{Exchange, Start, answers_to, behind_reply, client_bytes, comes_down, ends_at, ends_over, fault_up, goes_on_kept, goes_on_streamed, goes_up_over, heard_of, is_sent_over, next_allows, next_start, said_answered, said_down, said_exchange, said_head, said_request, said_start, said_to, said_way, sent_by, sent_from, sent_of_flows, side_over, streamed_request, text_by, text_up, unless_fault, until, used_by}
 use Rattle.px_said.specs.WhatCame.{Came, SayWhatCame, SaysCame, a_request_coming, came_answered, came_exchange, came_final, came_from, came_judged, came_next, came_request, came_start, came_to, came_way, messages_came, whole}
 use Rattle.px_said.specs.WhatWasRead.{IsOwn, a_final_response, a_request, an_interim_response, final_read, interim_known}
 use Rattle.px_said.proofs.ClosedFronts.{IsFront}
 use Rattle.px_said.proofs.ClosedItems.{after_on, items_after, items_split}
-use Rattle.px_said.proofs.LineFronts.{front_taken}
+use Rattle.px_said.proofs.ParkedFronts.{front_taken}
 use Rattle.px_said.proofs.LineSeen.{carried}
 use Rattle.px_said.proofs.PartsRead.{IsInterimRead, interim_read}
 use Rattle.px_said.proofs.SaysRequests.{accepted, says_made}
@@ -150,7 +149,7 @@ front_by test went size events (Some k) is =
     let it = least-Some test went size k is in
     let low = it.from in
     let less = length_taken went events in
-    front_taken k (take went events) events (front_of_more went events) (omega arith)
+    front_taken (take went events) events k (front_of_more went events) (omega arith)
 
 until_front : (found : Option ℕ) (events : List (Timed Event)) → IsFront (until found events) events
 until_front None events = front_self events
@@ -165,12 +164,13 @@ module _ (stays : StreamedStays) (terms : Terms) (events : List (Timed Event)) w
   Say due messages = SayWhatCame terms.place due messages
 
   -- behind a response
-  next_say : (sent keeps : Bool) (start : Start) (ended : Option ℕ) (further : Start → List Command) (messages : Start → List Came) →
-      ((next : Start) → sent ≡ true → next.bytes ≡ start.bytes → Say (further next) (messages next)) → Say (said_next (sent && keeps) start ended further) (came_next start ended messages)
-  next_say true true start (Some ended) further messages on = on (next_start start ended) refl refl
-  next_say true true start None further messages on = tt
-  next_say true false start ended further messages on = tt
-  next_say false keeps start ended further messages on = tt
+  next_say : (sent keeps : Bool) (bytes : ℕ) (next : ℕ → Start) (ended : Option ℕ) (further : Start → List Command) (messages : Start → List Came) → ((so_many : ℕ) → (next so_many).bytes ≡ bytes) →
+      ((there : Start) → sent ≡ true → there.bytes ≡ bytes → Say (further there) (messages there)) →
+      Say (said_behind (sent && keeps) ended (λ so_many. further (next so_many))) (came_next ended (λ so_many. messages (next so_many)))
+  next_say true true bytes next (Some ended) further messages same on = on (next ended) refl (same ended)
+  next_say true true bytes next None further messages same on = tt
+  next_say true false bytes next ended further messages same on = tt
+  next_say false keeps bytes next ended further messages same on = tt
 
   exchange_say : (start : Start) (exchange : Exchange) (message : List (Timed Event) → Came) (further : Start → List Command) (messages : Start → List Came) →
       let heard = until (ends_at events exchange) events in
@@ -184,13 +184,14 @@ module _ (stays : StreamedStays) (terms : Terms) (events : List (Timed Event)) w
       let request = exchange.request in
       let answers = answers_to request told in
       let sent = is_sent_over exchange heard in
+      let next : Start → ℕ → Start = λ from so_many. next_start terms.place from exchange.served request answers so_many in
       inr (
         says,
         known_say terms.place request.version answers.interim (interim_read (is_head request.method) told.shut told.bytes) _ _
             (down_say terms.place stays (comes_down (next_allows terms start.replies) (is_head request.method) told (head_in answers.final)) (next_allows terms start.replies) request told answers.final refl refl
             (fault_up exchange heard) _ _ _ _
-            (λ head. next_say sent (goes_on_streamed start request head) (behind_reply start) ended further messages on)
-            (λ response. next_say sent (goes_on_kept start request response) (behind_reply (behind_reply start)) ended further messages on)),
+            (λ head. next_say sent (goes_on_streamed start request head) start.bytes (next (behind_reply start)) ended further messages (λ so_many. refl) on)
+            (λ response. next_say sent (goes_on_kept start request response) start.bytes (next (behind_reply (behind_reply start))) ended further messages (λ so_many. refl) on)),
       )
 
   -- ---- it goes to its server
@@ -203,7 +204,7 @@ module _ (stays : StreamedStays) (terms : Terms) (events : List (Timed Event)) w
     answered_say start same [] = tt
     answered_say start same (reply.Dialled ∷ replies) =
         let exchange : Exchange = record { request = request; up = up; served = record { server = start.server; opened = come; used = 0; went = come } } in
-        exchange_say (record start { server = start.server + 1; replies = replies; opened = come }) exchange (message start.server) further messages
+        exchange_say (record start { server = start.server + 1; replies = replies }) exchange (message start.server) further messages
         (says start.server exchange refl refl refl refl) (λ next sent behind. on next (ends_at events exchange) sent (behind ∙ same))
     answered_say start same (reply.Refused fault ∷ replies) = fault_say terms.place fault (is_head request.method) []
     answered_say start same (reply.Go given allowed ∷ replies) = tt
@@ -212,16 +213,15 @@ module _ (stays : StreamedStays) (terms : Terms) (events : List (Timed Event)) w
     answered_say start same (reply.Discard ∷ replies) = tt
 
     to_say : (start : Start) → start.bytes ≡ bytes → (side : Option ℕ) → Say (said_to terms events start up request come side further) (came_to terms events start up request come side message messages)
-    to_say start same None = dial_say (came_answered terms events (record start { parked = None; used = 0 }) up request come start.replies message messages)
-        (answered_say (record start { parked = None; used = 0 }) same start.replies)
+    to_say start same None = dial_say (came_answered terms events start up request come start.replies message messages) (answered_say start same start.replies)
       where
-        dial_say : (list : List Came) → Say (said_answered terms events (record start { parked = None; used = 0 }) up request come start.replies further) list →
+        dial_say : (list : List Came) → Say (said_answered terms events start up request come start.replies further) list →
             Say (said_to terms events start up request come None further) list
         dial_say [] say = (tt, say)
         dial_say (first ∷ list) say = inl (tt, say)
     to_say start same (Some server) =
         let exchange : Exchange = record { request = request; up = up; served = record { server = server; opened = start.opened; used = start.used; went = come } } in
-        exchange_say (record start { parked = None; used = 0 }) exchange (message server) further messages
+        exchange_say start exchange (message server) further messages
         (says server exchange refl refl refl refl) (λ next sent behind. on next (ends_at events exchange) sent (behind ∙ same))
 
   -- ---- a request
@@ -229,10 +229,6 @@ module _ (stays : StreamedStays) (terms : Terms) (events : List (Timed Event)) w
   streams_head : (allowed : Option ℕ) (heard : ℕ) (head : Option RequestHead) → streams_behind request_says head allowed heard ≡ true → (own : RequestHead) × (head ≡ Some own)
   streams_head allowed heard None is = absurd (let no : false ≡ true = is in cc)
   streams_head allowed heard (Some own) is = (own, refl)
-
-  and_left : (a b : Bool) → (a && b) ≡ true → a ≡ true
-  and_left true b is = refl
-  and_left false b is = is
 
   some_same : (a b : RequestHead) → Some a ≡ Some b → a ≡ b
   some_same a b is = cc
@@ -252,13 +248,13 @@ module _ (stays : StreamedStays) (terms : Terms) (events : List (Timed Event)) w
     module _ (there : head_in (request_item bytes) ≡ Some head)
         (on : (next : Start) → is_whole (request_item bytes) ≡ true → next.bytes ≡ used_by (request_item bytes) start.bytes → Say (further next) (messages next)) where
       -- one that is streamed
-      up_say : (allowed : Option ℕ) (come : ℕ) (begin : Start) → begin.bytes ≡ start.bytes → goes_up_over terms begin made allowed (take come events) ≡ true →
+      up_say : (allowed : Option ℕ) (come : ℕ) (begin : Start) → begin.bytes ≡ start.bytes → goes_up_over begin allowed (take come events) ≡ true →
           Say (said_way true terms events begin made (request_item bytes) come further) (came_way true terms events begin head made (request_item bytes) come messages)
       up_say allowed come begin same streams =
           to_say (Some begin.bytes) (streamed_request made) come (λ server heard. a_request_coming server head (client_bytes heard begin.bytes)) further messages (used_by (request_item bytes) begin.bytes)
           (λ server exchange asked up to went.
           let heard = until (ends_at events exchange) events in
-          let read = streams_head allowed _ (head_in (request_item (client_bytes (take come events) begin.bytes))) (and_left (request_streams allowed (client_bytes (take come events) begin.bytes)) _ streams) in
+          let read = streams_head allowed _ (head_in (request_item (client_bytes (take come events) begin.bytes))) streams in
           let F : ℕ → Type 0 = λ n. IsFront (take n events) heard in
           let front : IsFront (take come events) heard =
           subst F went (front_by (λ k. ends_over exchange (take k events)) exchange.served.went (length events + 1) events (ends_at events exchange) refl) in
@@ -275,7 +271,7 @@ module _ (stays : StreamedStays) (terms : Terms) (events : List (Timed Event)) w
           let whole_all : is_whole (request_item bytes) ≡ true =
           ap (λ n. is_whole (request_item (client_bytes events n))) (sym same) ∙ (ap is_whole item ∙ sent) in
           on next whole_all (behind ∙ ap (used_by (request_item bytes)) same))
-          (record begin { bytes = used_by (request_item bytes) begin.bytes }) refl (parked_for terms.place made begin.parked)
+          (record begin { bytes = used_by (request_item bytes) begin.bytes }) refl (side_over terms.place begin made (take come events))
 
       -- and one that is kept
       kept_up_say : (come : ℕ) (begin : Start) → begin.bytes ≡ start.bytes → (item : Item RequestHead) → request_item bytes ≡ item →
@@ -297,11 +293,11 @@ module _ (stays : StreamedStays) (terms : Terms) (events : List (Timed Event)) w
           let says : M made = subst M goes.is (refl, says_made terms.place bytes head body trailers used whole_is goes.address goes.path goes.no_connect goes.goal) in
           subst (λ t. P t own) (sym text_so) (subst (P (onward_text (form_at terms.place) all)) (sym heads) says))
           (λ next found sent behind. on next (ap is_whole item) (behind ∙ (ap (λ n. n + used) same ∙ sym (ap (λ i. used_by i start.bytes) item))))
-          (behind_reply (record begin { bytes = begin.bytes + used })) refl (parked_for terms.place all begin.parked)
+          (behind_reply (record begin { bytes = begin.bytes + used })) refl (side_over terms.place begin all (take come events))
       kept_up_say come begin same (bad_head fault) item = tt
       kept_up_say come begin same (bad_body fault own body) item = fault_say terms.place fault (is_head made.method) []
 
-      way_say : (streams : Bool) (allowed : Option ℕ) (come : ℕ) (begin : Start) → begin.bytes ≡ start.bytes → goes_up_over terms begin made allowed (take come events) ≡ streams →
+      way_say : (streams : Bool) (allowed : Option ℕ) (come : ℕ) (begin : Start) → begin.bytes ≡ start.bytes → goes_up_over begin allowed (take come events) ≡ streams →
           Say (said_way streams terms events begin made (request_item bytes) come further) (came_way streams terms events begin head made (request_item bytes) come messages)
       way_say true allowed come begin same streams = up_say allowed come begin same streams
       way_say false allowed come begin same streams = kept_up_say come begin same (request_item bytes) refl
@@ -309,7 +305,7 @@ module _ (stays : StreamedStays) (terms : Terms) (events : List (Timed Event)) w
       request_say : (allowed : Option ℕ) (begin : Start) → begin.bytes ≡ start.bytes → (found : Option ℕ) →
           Say (said_request terms events begin made allowed (request_item bytes) found further) (came_request terms events begin head made allowed (request_item bytes) found messages)
       request_say allowed begin same None = tt
-      request_say allowed begin same (Some come) = way_say (goes_up_over terms begin made allowed (take come events)) allowed come begin same refl
+      request_say allowed begin same (Some come) = way_say (goes_up_over begin allowed (take come events)) allowed come begin same refl
 
   judged_say : (start : Start) (head : RequestHead) (made : Judged) → judged terms.place head ≡ made → (further : Start → List Command) (messages : Start → List Came) →
       let item = request_item (client_bytes events start.bytes) in

@@ -18,7 +18,8 @@ use Rattle.px_exchange.specs.declared.place.Place.{Place}
 use Rattle.px_parts.specs.Texts.{final_bytes, request_so_far, response_so_far}
 use Rattle.px_parts.proofs.ReadBackLemmas.{request-same, response-same}
 use Rattle.px_chain.specs.Going.{going_by}
-use Rattle.px_said.specs.Lines.{Told, streamed_request, text_down}
+use Rattle.px_said.specs.ClosedForm.{Told}
+use Rattle.px_said.specs.Lines.{streamed_request, text_down}
 use Rattle.px_said.specs.WhatCame.{StreamsRequest, StreamsResponse}
 use Rattle.px_said.specs.WhatWasRead.{sent_head}
 use Rattle.px_write.specs.Text.{target_text}

@@ -5,15 +5,62 @@ use Rattle.px_event.specs.declared.command.Command.{Command}
 use Rattle.px_event.specs.declared.command.Command.TheVariants as commands
 use Rattle.px_event.specs.declared.event.Event.{Event}
 use Rattle.px_event.specs.declared.reply.Reply.{Reply}
-use Rattle.px_event.specs.Chain.{Asks, Chain, Look, Stamped, Stop, owed_at, walk, walk_by, NotYet, Reached, Stamp, Timed, at_its_step, reach, reach_by, worked_off}
+use Rattle.px_event.specs.Chain.{Asks, Chain, Ends, Look, Stamped, Stop, owed_at, stop_at, walk, walk_by, NotYet, Reached, Stamp, Timed, at_its_step, reach, reach_by, worked_off}
 use Rattle.px_exchange.specs.declared.terms.Terms.{Terms}
 use Rattle.px_chain.specs.Chain.{http_chain, sequence, is_sequence}
 use Rattle.px_said.specs.ClosedForm.{first_flows, flows_behind}
 use Rattle.px_chain.specs.Sights.{Standing}
 use Rattle.px_said.specs.Walks.{ComesBy, IsOneReplyOn, Walk, behind_reply, due_by_reply, due_from, goes_on, is_there, reached_from, due_by_passing, heard_on, hears, passed_on, passes}
-use Rattle.px_said.proofs.ClosedWalk.{walk_behind, reach_behind, reach_by_behind, walk_by_behind, with_these}
 use Rattle.px_event.proofs.Walk.{walk_on, walk_is}
 use Rattle.px_chain.proofs.ChainLaws.{settles}
+
+-- ---- what was owed before is owed in front
+
+module _ {S E R A : Type 0} (chain : Chain S E R A) (a : List A) where
+  abbrev pub with_these : Reached S E A → Reached S E A
+  with_these here = record here { before = a ++ here.before }
+
+  pub reach_by_behind : (l : Look A) (further here other there : Reached S E A) → further ≡ with_these other → here ≡ with_these there →
+      reach_by l further here ≡ with_these (reach_by l other there)
+  reach_by_behind NotYet further here other there on at = on
+  reach_by_behind (Asks ask) further here other there on at = at
+  reach_by_behind (Ends owed) further here other there on at = at
+
+  pub reach_behind : (last : Stamp) (before : List A) (s : S) (f : List (Timed E)) (es : List (Stamped E)) →
+      reach chain last (a ++ before) s f es ≡ with_these (reach chain last before s f es)
+  reach_behind last before s f [] =
+      let on = chain.pass s f in
+      ap (λ b. record { before = b; stage = on.stage; prefix = f; rest = [] }) (append_assoc a before on.owed)
+  reach_behind last before s f (e ∷ es) =
+      let on = chain.pass s f in
+      let joined = append_assoc a before on.owed in
+      reach_by_behind (chain.look on.stage f) _ _ _ _
+      (ap (λ b. reach chain last b on.stage (f ++ worked_off last e ∷ []) es) joined
+      ∙ reach_behind last (before ++ on.owed) on.stage (f ++ worked_off last e ∷ []) es)
+      (ap (λ b. record { before = b; stage = on.stage; prefix = f; rest = e ∷ es }) joined)
+
+  pub walk_by_behind : (l : Look A) (onward other : A → Stop S E R A) (stop there : Stop S E R A) →
+      ((ask : A) → owed_at chain (onward ask) ≡ a ++ owed_at chain (other ask)) → owed_at chain stop ≡ a ++ owed_at chain there →
+      owed_at chain (walk_by l onward stop) ≡ a ++ owed_at chain (walk_by l other there)
+  walk_by_behind NotYet onward other stop there on at = at
+  walk_by_behind (Asks ask) onward other stop there on at = on ask
+  walk_by_behind (Ends owed) onward other stop there on at = at
+
+  pub walk_behind : (rs : List (Stamped R)) (last : Stamp) (before : List A) (s : S) (f : List (Timed E)) (es : List (Stamped E)) →
+      owed_at chain (walk chain rs last (a ++ before) s f es) ≡ a ++ owed_at chain (walk chain rs last before s f es)
+  walk_behind [] last before s f es =
+      let here = reach chain last before s f es in
+      ap (λ h. owed_at chain (stop_at last h [])) (reach_behind last before s f es) ∙ append_assoc a here.before _
+  walk_behind (r ∷ rs) last before s f es =
+      let here = reach chain last before s f es in
+      let on = chain.turn here.stage here.prefix (at_its_step r) in
+      ap (λ h. owed_at chain (walk_on chain (r ∷ rs) last h)) (reach_behind last before s f es)
+      ∙ walk_by_behind (chain.look here.stage here.prefix) _ _ _ _
+      (λ ask.
+      let more = chain.so_far here.stage here.prefix ++ ask ∷ (chain.behind here.stage here.prefix ++ on.owed) in
+      ap (λ b. owed_at chain (walk chain rs r.stamp b on.stage here.prefix here.rest)) (append_assoc a here.before more)
+      ∙ walk_behind rs r.stamp (here.before ++ more) on.stage here.prefix here.rest)
+      (append_assoc a here.before _)
 
 -- ---- all flows of what is due
 

@@ -1,8 +1,8 @@
 -- What goes on is sent on: what is due for flows whose replies all go on and stream no body, said over whole lists and without stages, from
--- any place where a request is awaited. The requests of the client's stream stand one behind the other; each is sent to a server of its own, once the
--- response before it is whole, and the client gets what came of each. A server that is connected already and that no flow has used (the
--- parked side) gets the first request, where that goes there. Nothing stands behind a fault, a CONNECT, a response that switches protocols, or
--- one behind which the connection does not go on.
+-- any place where a request is awaited. The requests of the client's stream stand one behind the other; each is sent once it is whole, and the response
+-- before it, and the client gets what came of each. A server's side stays connected behind a response where both messages persist (the parked side), and
+-- gets the next request where that goes to its address and nothing was heard of it by then; else that request's server is dialled, and nothing is parked
+-- any more. Nothing stands behind a fault, a CONNECT, a response that switches protocols, or one behind which the connection does not go on.
 use Rattle.std.specs.Prelude.{◌≡◌, ℕ, zero, suc, ◌+◌, ◌==◌, Bool, true, false, ◌&&◌, not, List, [], ◌∷◌, ◌++◌, drop, take, length, ⊤, Option, Some, None, option_to_list}
 use Rattle.std.specs.List.{flat_map}
 use Rattle.px_text.specs.Least.{least}
@@ -24,16 +24,19 @@ use Rattle.px_read.specs.Laws.{head_in}
 use Rattle.px_read.specs.Requests.{request_list}
 use Rattle.px_read.specs.declared.head.RequestHead.{RequestHead}
 use Rattle.px_read.specs.declared.head.ResponseHead.{ResponseHead}
-use Rattle.px_exchange.specs.Endings.{connection_goes_on}
+use Rattle.px_exchange.specs.Endings.{connection_goes_on, read_persists, sent_persists}
 use Rattle.px_exchange.specs.Finds.{is_relayed}
 use Rattle.px_exchange.specs.Flows.{response_of}
-use Rattle.px_exchange.specs.Places.{dialled_for, form_at}
+use Rattle.px_exchange.specs.Places.{dialled_for, form_at, server_for}
 use Rattle.px_exchange.specs.Requests.{expects, is_head, judged}
 use Rattle.px_exchange.specs.Texts.{interim_commands, meets_expectation, onward_text, returned_text}
 use Rattle.px_exchange.specs.declared.asked.Judged.{Judged}
 use Rattle.px_exchange.specs.declared.asked.Judged.TheVariants.{Refused, Accepted, Connects}
+use Rattle.px_exchange.specs.declared.place.Place.{Place}
 use Rattle.px_exchange.specs.declared.terms.Terms.{Terms}
 use Rattle.px_chain.specs.Chain.{parked_for}
+use Rattle.px_chain.specs.Keeping.{is_silent}
+use Rattle.px_chain.specs.Sights.{used_by_answers}
 use Rattle.px_chain.specs.Stages.{Parked}
 use Rattle.px_chain.specs.Streams.{bytes_of, is_closed}
 
@@ -110,6 +113,33 @@ dial_answers replies = flat_map dial_answer replies
 abbrev pub request_items : List ℕ → List (Item RequestHead)
 request_items bytes = (request_list bytes).whole ++ option_to_list (request_list bytes).last
 
+-- of a server's side, in the events behind so many, behind so many bytes: its bytes, and whether it closed
+pub record Told : Type 0 where
+  pub bytes : List ℕ
+  pub shut : Bool
+
+abbrev pub told_by : List (Timed Event) → ℕ → ℕ → ℕ → Told
+told_by events server opened used =
+    record { bytes = drop used (bytes_of (Server server) (drop opened events)); shut = is_closed (Server server) (drop opened events) }
+
+-- ---- which side waits for the next request
+
+abbrev pub parked_if : Bool → Parked → Option Parked
+parked_if true parked = Some parked
+parked_if false parked = None
+
+-- Behind a whole response the side of this number is parked, at the address that its request went to, where both messages persist (RFC 9112 section 9.3).
+abbrev pub parked_behind : Place → Request → Item ResponseHead → ℕ → Option Parked
+parked_behind place request (complete head body trailers used) server =
+    parked_if (sent_persists request && read_persists request head) (record { server = server; address = server_for place request })
+parked_behind place request item server = None
+
+-- It is parked no more once a byte came of it, behind those that were used, or its close.
+abbrev pub still_parked : List (Timed Event) → Option Parked → ℕ → ℕ → Option Parked
+still_parked events None opened used = None
+still_parked events (Some parked) opened used =
+    let told = told_by events parked.server opened used in parked_if (is_silent told.bytes told.shut) parked
+
 -- ---- when a server is connected, and when its response is whole
 
 -- where a request stands
@@ -123,7 +153,7 @@ pub record Point : Type 0 where
   pub events : ℕ
   -- the answers of the dials from here on
   pub dials : List (Option Fault)
-  -- the side of a server that is connected and that no flow uses, which is heard in the events behind so many, behind so many bytes
+  -- the parked side, which is heard in the events behind so many, behind so many bytes
   pub parked : Option Parked
   pub opened : ℕ
   pub used : ℕ
@@ -132,10 +162,6 @@ pub record Point : Type 0 where
 abbrev pub behind_request : Point → ℕ → Point
 behind_request point used = record point { bytes = point.bytes + used }
 
--- and once its response is whole as well, the next one stands here
-abbrev pub next_point : Point → ℕ → Point
-next_point point ended = record point { flow = point.flow + 1; events = ended }
-
 -- the server that a request went to, how many events had come when it was connected, behind which it is heard, how many of its bytes
 -- were used before, and when the request went there
 pub record Served : Type 0 where
@@ -143,6 +169,16 @@ pub record Served : Type 0 where
   pub opened : ℕ
   pub used : ℕ
   pub went : ℕ
+
+-- once the responses of that server are whole as well, the next request stands here, and the side is parked behind them, or none is
+abbrev pub next_point : Place → Point → Served → Request → Answers → ℕ → Point
+next_point place point served request answers ended = record point {
+  flow = point.flow + 1;
+  events = ended;
+  parked = parked_behind place request answers.final served.server;
+  opened = served.opened;
+  used = used_by_answers answers served.used;
+}
 
 abbrev pub is_whole : {H : Type 0} → Item H → Bool
 is_whole (complete head body trailers used) = true
@@ -158,8 +194,7 @@ connected_at events point = least (request_is_whole events point.bytes) point.ev
 
 -- the responses of a server, which is heard in the events behind so many, behind the bytes that were used before
 abbrev pub answers_at : List (Timed Event) → ℕ → ℕ → ℕ → Bool → Answers
-answers_at events server opened used asked_head =
-    answer_list asked_head (is_closed (Server server) (drop opened events)) (drop used (bytes_of (Server server) (drop opened events)))
+answers_at events server opened used asked_head = let told = told_by events server opened used in answer_list asked_head told.shut told.bytes
 
 -- its final response is whole in the first so many events
 abbrev pub response_is_whole : List (Timed Event) → ℕ → ℕ → ℕ → Bool → ℕ → Bool
@@ -190,9 +225,9 @@ abbrev pub next_is_read : Point → Request → Response → Bool
 next_is_read point request response = not (response.status == 101) && connection_goes_on point.flow request response
 
 -- what is said behind a response that is whole
-abbrev pub said_behind : Bool → Point → Option ℕ → (Point → List Command) → List Command
-said_behind true point (Some ended) further = further (next_point point ended)
-said_behind _ point ended further = []
+abbrev pub said_behind : Bool → Option ℕ → (ℕ → List Command) → List Command
+said_behind true (Some ended) further = further ended
+said_behind _ ended further = []
 
 -- The final response as it goes to the client, once it is whole, and what is said behind it; or the fault of its body.
 abbrev pub said_returned : Request → Item ResponseHead → (Response → List Command) → List Command
@@ -220,40 +255,39 @@ said_answers request answers behind = interim_commands request answers.interim +
 -- ---- what is said of a request
 
 -- behind its response
-abbrev pub said_on : List (Timed Event) → Point → Served → (Point → List Command) → Request → Response → List Command
-said_on events point served further request response =
-    said_behind (next_is_read point request response) point (ended_at events served (is_head request.method)) further
+abbrev pub said_on : Place → List (Timed Event) → Point → Served → (Point → List Command) → Request → Response → List Command
+said_on place events point served further request response =
+    let asked_head = is_head request.method in
+    let answers = answers_at events served.server served.opened served.used asked_head in
+    said_behind (next_is_read point request response) (ended_at events served asked_head) (λ ended. further (next_point place point served request answers ended))
 
 -- it is sent on, and its response comes back
 abbrev pub said_served : Terms → List (Timed Event) → Point → Served → (Point → List Command) → Request → List Command
 said_served terms events point served further request =
     commands.Send (Server served.server) (onward_text (form_at terms.place) request)
-    ∷ said_answers request (answers_at events served.server served.opened served.used (is_head request.method)) (said_on events point served further request)
+    ∷ said_answers request (answers_at events served.server served.opened served.used (is_head request.method)) (said_on terms.place events point served further request)
 
 -- By the answer of its dial it goes to the new server, which is heard from then on; or the dial is refused.
 abbrev pub said_dialled : Terms → List (Timed Event) → Point → Request → ℕ → List (Option Fault) → (Point → List Command) → List Command
 said_dialled terms events point request come [] further = []
 said_dialled terms events point request come (Some fault ∷ dials) further = fault_said fault (is_head request.method)
 said_dialled terms events point request come (None ∷ dials) further =
-    said_served terms events (record point { server = point.server + 1; dials = dials; opened = come })
+    said_served terms events (record point { server = point.server + 1; dials = dials })
     (record { server = point.server; opened = come; used = 0; went = come }) further request
-
--- the parked side is taken, or closed behind a dial
-abbrev pub without_parked : Point → Point
-without_parked point = record point { parked = None; used = 0 }
 
 -- It goes to the parked side without a dial; or its server is dialled, or the proxy through which that is reached.
 abbrev pub said_by : Terms → List (Timed Event) → Point → Request → ℕ → Option ℕ → (Point → List Command) → List Command
 said_by terms events point request come None further =
-    commands.Dial point.server (dialled_for terms.place request) None ∷ said_dialled terms events (without_parked point) request come point.dials further
+    commands.Dial point.server (dialled_for terms.place request) None ∷ said_dialled terms events point request come point.dials further
 said_by terms events point request come (Some server) further =
-    said_served terms events (without_parked point) (record { server = server; opened = point.opened; used = point.used; went = come }) further request
+    said_served terms events point (record { server = server; opened = point.opened; used = point.used; went = come }) further request
 
 -- once it is whole
 abbrev pub said_connected : Terms → List (Timed Event) → Point → Request → Option ℕ → (Point → List Command) → List Command
 said_connected terms events point request None further = []
 said_connected terms events point request (Some come) further =
-    said_by terms events point request come (parked_for terms.place request point.parked) further
+    let parked = still_parked (take come events) point.parked point.opened point.used in
+    said_by terms events point request come (parked_for terms.place request parked) further
 
 abbrev pub said_whole : Terms → List (Timed Event) → Point → Request → Item RequestHead → (Point → List Command) → List Command
 said_whole terms events point request (complete head body trailers used) further =

@@ -5,6 +5,8 @@
 -- request is at fault; what is sent of both messages is told by what was heard up to there. Nothing stands behind a fault, a CONNECT, a response that
 -- switches protocols or is whole before its request, or one behind which the connection does not go on. Where both messages come at once, what goes
 -- to the server is in no order with what goes to the client: here it stands in front, and lists are compared in each view of px_event.
+-- A server's side is kept behind a whole response, where the client's connection goes on and both messages persist; and the next request goes there, where
+-- its address is that one's and nothing was heard of that side since, or its server is dialled.
 use Rattle.std.specs.Prelude.{◌≡◌, ℕ, ◌+◌, ◌==◌, Bool, true, false, ◌&&◌, ◌||◌, not, List, [], ◌∷◌, ◌++◌, drop, take, length, ⊤, Option, Some, None}
 use Rattle.px_text.specs.Least.{least}
 use Rattle.px_message.specs.declared.fault.Fault.{Fault}
@@ -30,15 +32,17 @@ use Rattle.px_exchange.specs.Requests.{expects, is_head, judged}
 use Rattle.px_exchange.specs.Texts.{interim_commands, meets_expectation, onward_text}
 use Rattle.px_exchange.specs.declared.asked.Judged.{Judged}
 use Rattle.px_exchange.specs.declared.asked.Judged.TheVariants.{Refused, Accepted, Connects}
+use Rattle.px_exchange.specs.declared.place.Place.{Place}
 use Rattle.px_exchange.specs.declared.terms.Terms.{Terms}
 use Rattle.px_parts.specs.Streamed.{request_streams, response_streams}
 use Rattle.px_parts.specs.Texts.{final_bytes, final_so_far}
-use Rattle.px_chain.specs.Chain.{is_silent, parked_for}
+use Rattle.px_chain.specs.Chain.{parked_for}
 use Rattle.px_chain.specs.Coming.{framed_as, goes_on_behind}
 use Rattle.px_chain.specs.Going.{allowed_up_by, going_by}
+use Rattle.px_chain.specs.Sights.{used_by_answers}
 use Rattle.px_chain.specs.Stages.{Parked}
-use Rattle.px_chain.specs.Streams.{bytes_of, is_closed}
-use Rattle.px_said.specs.ClosedForm.{AnswersDial, MayWait, Served, fault_said, headless_said, is_whole, request_items, said_final, whole_request}
+use Rattle.px_chain.specs.Streams.{bytes_of}
+use Rattle.px_said.specs.ClosedForm.{AnswersDial, MayWait, Served, Told, fault_said, headless_said, is_whole, parked_behind, request_items, said_behind, said_final, still_parked, told_by, whole_request}
 
 -- ---- replies that go on, over any size
 
@@ -87,39 +91,26 @@ behind_reply start = record start { replies = drop 1 start.replies }
 abbrev pub client_bytes : List (Timed Event) → ℕ → List ℕ
 client_bytes events bytes = drop bytes (bytes_of Client events)
 
--- of a server, in the events behind so many, behind so many bytes: its bytes, and whether it closed
-pub record Told : Type 0 where
-  pub bytes : List ℕ
-  pub shut : Bool
-
-abbrev pub told_by : List (Timed Event) → ℕ → ℕ → ℕ → Told
-told_by events server opened used =
-    record { bytes = drop used (bytes_of (Server server) (drop opened events)); shut = is_closed (Server server) (drop opened events) }
-
 abbrev pub answers_to : Request → Told → Answers
 answers_to request told = answer_list (is_head request.method) told.shut told.bytes
 
 -- ---- when a request goes on
 
--- nothing was heard of the side that it goes to
-abbrev pub is_quiet : List (Timed Event) → Start → Option ℕ → Bool
-is_quiet events start None = true
-is_quiet events start (Some server) = let told = told_by events server start.opened start.used in is_silent told.bytes told.shut
-
 -- it is streamed over these events, where this size is allowed
-abbrev pub goes_up_over : Terms → Start → Request → Option ℕ → List (Timed Event) → Bool
-goes_up_over terms start request allowed events =
-    request_streams allowed (client_bytes events start.bytes) && is_quiet events start (parked_for terms.place request start.parked)
+abbrev pub goes_up_over : Start → Option ℕ → List (Timed Event) → Bool
+goes_up_over start allowed events = request_streams allowed (client_bytes events start.bytes)
 
 -- it is whole, at fault, or streamed
-abbrev pub goes_on_over : Terms → Start → Request → Option ℕ → List (Timed Event) → Bool
-goes_on_over terms start request allowed events =
-    is_decided (request_item (client_bytes events start.bytes)) || goes_up_over terms start request allowed events
+abbrev pub goes_on_over : Start → Option ℕ → List (Timed Event) → Bool
+goes_on_over start allowed events = is_decided (request_item (client_bytes events start.bytes)) || goes_up_over start allowed events
 
 -- the fewest events over which it is
-abbrev pub goes_on_at : Terms → List (Timed Event) → Start → Request → Option ℕ → Option ℕ
-goes_on_at terms events start request allowed =
-    least (λ so_many. goes_on_over terms start request allowed (take so_many events)) start.events (length events + 1)
+abbrev pub goes_on_at : List (Timed Event) → Start → Option ℕ → Option ℕ
+goes_on_at events start allowed = least (λ so_many. goes_on_over start allowed (take so_many events)) start.events (length events + 1)
+
+-- the side that it goes to then: the parked one, while it is parked, where it goes to its address
+abbrev pub side_over : Place → Start → Request → List (Timed Event) → Option ℕ
+side_over place start request events = parked_for place request (still_parked events start.parked start.opened start.used)
 
 -- ---- when its exchange ends
 
@@ -224,12 +215,15 @@ goes_on_kept start request response = not (response.status == 101) && connection
 abbrev pub goes_on_streamed : Start → Request → ResponseHead → Bool
 goes_on_streamed start request head = goes_on_behind start.flow request (record { response = response_of head; head = head })
 
-abbrev pub next_start : Start → ℕ → Start
-next_start start ended = record start { flow = start.flow + 1; events = ended }
-
-abbrev pub said_next : Bool → Start → Option ℕ → (Start → List Command) → List Command
-said_next true start (Some ended) further = further (next_start start ended)
-said_next goes_on start ended further = []
+-- once the responses of its server are whole as well, the next request stands here, and the side is parked behind them, or none is
+abbrev pub next_start : Place → Start → Served → Request → Answers → ℕ → Start
+next_start place start served request answers ended = record start {
+  flow = start.flow + 1;
+  events = ended;
+  parked = parked_behind place request answers.final served.server;
+  opened = served.opened;
+  used = used_by_answers answers served.used;
+}
 
 -- It is said over what is heard of it: the request, the interim responses, and the final one; and what is said behind it. Of the replies the next one is about
 -- the response's head, and that behind it about a response that was kept.
@@ -239,11 +233,13 @@ said_exchange terms events start exchange further =
     let heard = until ended events in
     let told = heard_of exchange heard in
     let request = exchange.request in
+    let answers = answers_to request told in
+    let on : Start → ℕ → List Command = λ from so_many. further (next_start terms.place from exchange.served request answers so_many) in
     commands.Send (Server exchange.served.server) (text_up terms exchange heard)
-    ∷ (interim_commands request (answers_to request told).interim
+    ∷ (interim_commands request answers.interim
     ++ said_response (next_allows terms start.replies) request told (fault_up exchange heard)
-    (λ head. said_next (is_sent_over exchange heard && goes_on_streamed start request head) (behind_reply start) ended further)
-    (λ response. said_next (is_sent_over exchange heard && goes_on_kept start request response) (behind_reply (behind_reply start)) ended further))
+    (λ head. said_behind (is_sent_over exchange heard && goes_on_streamed start request head) ended (on (behind_reply start)))
+    (λ response. said_behind (is_sent_over exchange heard && goes_on_kept start request response) ended (on (behind_reply (behind_reply start)))))
 
 -- ---- what is said of a request
 
@@ -251,17 +247,17 @@ said_exchange terms events start exchange further =
 abbrev pub said_answered : Terms → List (Timed Event) → Start → Option ℕ → Request → ℕ → List Reply → (Start → List Command) → List Command
 said_answered terms events start up request come (reply.Refused fault ∷ replies) further = fault_said fault (is_head request.method)
 said_answered terms events start up request come (reply.Dialled ∷ replies) further =
-    said_exchange terms events (record start { server = start.server + 1; replies = replies; opened = come })
+    said_exchange terms events (record start { server = start.server + 1; replies = replies })
     (record { request = request; up = up; served = record { server = start.server; opened = come; used = 0; went = come } }) further
 said_answered terms events start up request come replies further = []
 
--- It goes to the parked side without a dial; or its server is dialled, or the proxy through which that is reached, and nothing is parked any more.
+-- It goes to the parked side without a dial; or its server is dialled, or the proxy through which that is reached.
 abbrev pub said_to : Terms → List (Timed Event) → Start → Option ℕ → Request → ℕ → Option ℕ → (Start → List Command) → List Command
 said_to terms events start up request come None further =
     commands.Dial start.server (dialled_for terms.place request) None
-    ∷ said_answered terms events (record start { parked = None; used = 0 }) up request come start.replies further
+    ∷ said_answered terms events start up request come start.replies further
 said_to terms events start up request come (Some server) further =
-    said_exchange terms events (record start { parked = None; used = 0 })
+    said_exchange terms events start
     (record { request = request; up = up; served = record { server = server; opened = start.opened; used = start.used; went = come } }) further
 
 -- the bytes that a whole request used are in front of the next one
@@ -274,12 +270,12 @@ abbrev pub streamed_request : Request → Request
 streamed_request request = record request { streamed = true }
 
 abbrev pub said_kept : Terms → List (Timed Event) → Start → Request → ℕ → (Start → List Command) → List Command
-said_kept terms events start request come further = said_to terms events start None request come (parked_for terms.place request start.parked) further
+said_kept terms events start request come further = said_to terms events start None request come (side_over terms.place start request (take come events)) further
 
 -- It goes up as it comes; or once it is whole, behind the reply about that; or its fault is said.
 abbrev pub said_way : Bool → Terms → List (Timed Event) → Start → Request → Item RequestHead → ℕ → (Start → List Command) → List Command
 said_way true terms events start request item come further =
-    said_to terms events (record start { bytes = used_by item start.bytes }) (Some start.bytes) (streamed_request request) come (parked_for terms.place request start.parked) further
+    said_to terms events (record start { bytes = used_by item start.bytes }) (Some start.bytes) (streamed_request request) come (side_over terms.place start request (take come events)) further
 said_way false terms events start request (complete head body trailers used) come further =
     said_kept terms events (behind_reply (record start { bytes = start.bytes + used })) (whole_request request body trailers) come further
 said_way false terms events start request (bad_body fault head body) come further = fault_said fault (is_head request.method)
@@ -287,7 +283,7 @@ said_way false terms events start request item come further = []
 
 abbrev pub said_request : Terms → List (Timed Event) → Start → Request → Option ℕ → Item RequestHead → Option ℕ → (Start → List Command) → List Command
 said_request terms events start request allowed item (Some come) further =
-    said_way (goes_up_over terms start request allowed (take come events)) terms events start request item come further
+    said_way (goes_up_over start allowed (take come events)) terms events start request item come further
 said_request terms events start request allowed item None further = []
 
 -- a head that is refused has its fault; behind a CONNECT nothing is said
@@ -297,7 +293,7 @@ said_head terms events start head (Connects address) item further = []
 said_head terms events start head (Accepted request) item further =
     let allowed = next_allows terms start.replies in
     let on = behind_reply start in
-    meets_expectation (expects head) ++ said_request terms events on request allowed item (goes_on_at terms events on request allowed) further
+    meets_expectation (expects head) ++ said_request terms events on request allowed item (goes_on_at events on allowed) further
 
 abbrev pub said_start : Terms → List (Timed Event) → Start → Option RequestHead → Item RequestHead → (Start → List Command) → List Command
 said_start terms events start None item further = headless_said item false

@@ -113,13 +113,16 @@ pub data ComesBy (terms : Terms) : (here there : Walk) → List Command → Type
   goes_on : (here next there : Walk) (owed more : List Command) → IsOneReplyOn terms here next owed → ComesBy terms next there more →
       ComesBy terms here there (owed ++ more)
 
--- The flow of this number begins there: the walk comes by a place where its request is awaited, and by then this was due.
+-- The flow of this number begins there: the walk comes by a place where its request is awaited, and what was due by then, with what that place owes while it
+-- waits (the close of a parked side of which a byte came), is this.
 pub record FlowBegins (terms : Terms) (here : Walk) (before : List Command) (number : ℕ) : Type 0 where
   pub there : Walk
   pub at : At
   pub awaits : there.place.stage ≡ idle at
   pub flow : at.flow ≡ number
-  pub comes : ComesBy terms here there before
+  pub due : List Command
+  pub comes : ComesBy terms here there due
+  pub owes : before ≡ due ++ (http_chain sequence terms).so_far there.place there.prefix
 
 -- the same, with the replies from here on
 abbrev pub start_at : At → Walk → Start

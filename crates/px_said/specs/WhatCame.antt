@@ -23,9 +23,8 @@ use Rattle.px_exchange.specs.declared.asked.Judged.TheVariants.{Accepted}
 use Rattle.px_exchange.specs.declared.place.Place.{Place}
 use Rattle.px_exchange.specs.declared.terms.Terms.{Terms}
 use Rattle.px_parts.specs.Texts.{behind_text, final_bytes, response_behind_text}
-use Rattle.px_chain.specs.Chain.{parked_for}
-use Rattle.px_said.specs.ClosedForm.{request_items, whole_request}
-use Rattle.px_said.specs.Lines.{Exchange, Start, Told, answers_to, behind_reply, client_bytes, comes_down, ends_at, goes_on_at, goes_up_over, heard_of, next_allows, next_start, streamed_request, until, used_by}
+use Rattle.px_said.specs.ClosedForm.{Told, request_items, whole_request}
+use Rattle.px_said.specs.Lines.{Exchange, Start, answers_to, behind_reply, client_bytes, comes_down, ends_at, goes_on_at, goes_up_over, heard_of, next_allows, next_start, side_over, streamed_request, until, used_by}
 use Rattle.px_said.specs.WhatWasRead.{EndsThere, IsOwn, IsReadable, KeepsTarget, Message, Says, a_request, an_interim_response, answer_head_text, final_read, head_text, interim_known, sent_head}
 
 -- ---- what a text says that comes
@@ -58,9 +57,9 @@ pub data Came : Type 0 where
   a_response_coming : (asked_head closed : Bool) (head : ResponseHead) (bytes : List ℕ) → Came
 
 -- behind a response that is whole
-abbrev pub came_next : Start → Option ℕ → (Start → List Came) → List Came
-came_next start None further = []
-came_next start (Some ended) further = further (next_start start ended)
+abbrev pub came_next : Option ℕ → (ℕ → List Came) → List Came
+came_next None further = []
+came_next (Some ended) further = further ended
 
 abbrev pub coming_of : Bool → Told → Option ResponseHead → List Came
 coming_of asked_head told None = []
@@ -78,46 +77,47 @@ came_exchange terms events start exchange request further =
     let told = heard_of exchange heard in
     let asked_head = is_head exchange.request.method in
     let answers = answers_to exchange.request told in
+    let on : Start → ℕ → List Came = λ from so_many. further (next_start terms.place from exchange.served exchange.request answers so_many) in
     request heard
     ∷ (map (λ head. whole (an_interim_response head)) (interim_known exchange.request.version answers.interim)
     ++ came_final (comes_down (next_allows terms start.replies) asked_head told (head_in answers.final)) asked_head told answers.final
-    (came_next (behind_reply start) ended further) (came_next (behind_reply (behind_reply start)) ended further))
+    (came_next ended (on (behind_reply start))) (came_next ended (on (behind_reply (behind_reply start)))))
 
 -- ---- of a request: it goes to the new server, or to the parked side
 
 abbrev pub came_answered : Terms → List (Timed Event) → Start → Option ℕ → Request → ℕ → List Reply → (ℕ → List (Timed Event) → Came) → (Start → List Came) → List Came
 came_answered terms events start up request come (reply.Dialled ∷ replies) message further =
-    came_exchange terms events (record start { server = start.server + 1; replies = replies; opened = come })
+    came_exchange terms events (record start { server = start.server + 1; replies = replies })
     (record { request = request; up = up; served = record { server = start.server; opened = come; used = 0; went = come } }) (message start.server) further
 came_answered terms events start up request come replies message further = []
 
 abbrev pub came_to : Terms → List (Timed Event) → Start → Option ℕ → Request → ℕ → Option ℕ → (ℕ → List (Timed Event) → Came) → (Start → List Came) → List Came
 came_to terms events start up request come None message further =
-    came_answered terms events (record start { parked = None; used = 0 }) up request come start.replies message further
+    came_answered terms events start up request come start.replies message further
 came_to terms events start up request come (Some server) message further =
-    came_exchange terms events (record start { parked = None; used = 0 })
+    came_exchange terms events start
     (record { request = request; up = up; served = record { server = server; opened = start.opened; used = start.used; went = come } }) (message server) further
 
 -- streamed, or whole
 abbrev pub came_way : Bool → Terms → List (Timed Event) → Start → RequestHead → Request → Item RequestHead → ℕ → (Start → List Came) → List Came
 came_way true terms events start head request item come further =
-    came_to terms events (record start { bytes = used_by item start.bytes }) (Some start.bytes) (streamed_request request) come (parked_for terms.place request start.parked)
+    came_to terms events (record start { bytes = used_by item start.bytes }) (Some start.bytes) (streamed_request request) come (side_over terms.place start request (take come events))
     (λ server heard. a_request_coming server head (client_bytes heard start.bytes)) further
 came_way false terms events start head request (complete own body trailers used) come further =
     let all = whole_request request body trailers in
-    came_to terms events (behind_reply (record start { bytes = start.bytes + used })) None all come (parked_for terms.place all start.parked)
+    came_to terms events (behind_reply (record start { bytes = start.bytes + used })) None all come (side_over terms.place start all (take come events))
     (λ server heard. whole (a_request server own body trailers)) further
 came_way false terms events start head request item come further = []
 
 abbrev pub came_request : Terms → List (Timed Event) → Start → RequestHead → Request → Option ℕ → Item RequestHead → Option ℕ → (Start → List Came) → List Came
 came_request terms events start head request allowed item None further = []
 came_request terms events start head request allowed item (Some come) further =
-    came_way (goes_up_over terms start request allowed (take come events)) terms events start head request item come further
+    came_way (goes_up_over start allowed (take come events)) terms events start head request item come further
 
 abbrev pub came_judged : Terms → List (Timed Event) → Start → RequestHead → Judged → Item RequestHead → (Start → List Came) → List Came
 came_judged terms events start head (Accepted request) item further =
     let allowed = next_allows terms start.replies in
-    let on = behind_reply start in came_request terms events on head request allowed item (goes_on_at terms events on request allowed) further
+    let on = behind_reply start in came_request terms events on head request allowed item (goes_on_at events on allowed) further
 came_judged terms events start head made item further = []
 
 abbrev pub came_start : Terms → List (Timed Event) → Start → Option RequestHead → Item RequestHead → (Start → List Came) → List Came

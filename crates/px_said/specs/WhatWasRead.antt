@@ -33,7 +33,8 @@ use Rattle.px_exchange.specs.declared.asked.Judged.TheVariants.{Accepted}
 use Rattle.px_exchange.specs.declared.place.Place.{Place}
 use Rattle.px_exchange.specs.declared.place.Place.TheVariants as places
 use Rattle.px_chain.specs.Chain.{parked_for}
-use Rattle.px_said.specs.ClosedForm.{Point, Served, answers_at, ended_at, request_is_whole, request_items}
+use Rattle.px_said.specs.ClosedForm.{Point, Served, answers_at, ended_at, parked_behind, request_is_whole, request_items, still_parked, whole_request}
+use Rattle.px_chain.specs.Sights.{used_by_answers}
 use Rattle.px_chain.specs.Stages.{Parked}
 use Rattle.px_chain.specs.Streams.{bytes_of}
 
@@ -136,11 +137,26 @@ abbrev pub served_by : Here → ℕ → Option ℕ → Served
 served_by here come None = record { server = here.server; opened = come; used = 0; went = come }
 served_by here come (Some server) = record { server = server; opened = here.opened; used = here.used; went = come }
 
--- and where the next request stands, behind so many bytes, once its response is whole: nothing is parked any more
-abbrev pub behind_by : Here → ℕ → ℕ → ℕ → Option ℕ → Here
-behind_by here used come ended None = record { server = here.server + 1; bytes = here.bytes + used; events = ended; parked = None; opened = come; used = 0 }
-behind_by here used come ended (Some server) =
-    record { server = here.server; bytes = here.bytes + used; events = ended; parked = None; opened = here.opened; used = 0 }
+-- a server that was dialled has used its number
+abbrev pub next_dialled : ℕ → Option ℕ → ℕ
+next_dialled server None = server + 1
+next_dialled server (Some side) = server
+
+abbrev pub parked_read : Place → Judged → Body → List (List ℕ × List ℕ) → Item ResponseHead → ℕ → Option Parked
+parked_read place (Accepted request) body trailers final server = parked_behind place (whole_request request body trailers) final server
+parked_read place _ body trailers final server = None
+
+-- and where the next request stands, behind so many bytes, once its response is whole
+abbrev pub behind_by : Place → List (Timed Event) → Here → RequestHead → Body → List (List ℕ × List ℕ) → ℕ → Option ℕ → Served → ℕ → Here
+behind_by place events here head body trailers used side served ended =
+    let answers = answers_at events served.server served.opened served.used (is_head head.method) in record {
+      server = next_dialled here.server side;
+      bytes = here.bytes + used;
+      events = ended;
+      parked = parked_read place (judged place head) body trailers answers.final served.server;
+      opened = served.opened;
+      used = used_by_answers answers served.used;
+    }
 
 abbrev pub messages_behind : Option ℕ → (ℕ → List Message) → List Message
 messages_behind None further = []
@@ -154,12 +170,18 @@ messages_at events served head body trailers further =
     ∷ (answers_read head.version asked_head (answers_at events served.server served.opened served.used asked_head)
     ++ messages_behind (ended_at events served asked_head) further)
 
--- it goes there behind the fewest events over which it is whole
+-- it goes to this side, once so many events have come
+abbrev pub messages_by : Place → List (Timed Event) → Here → RequestHead → Body → List (List ℕ × List ℕ) → ℕ → ℕ → Option ℕ → (Here → List Message) → List Message
+messages_by place events here head body trailers used come side further =
+    let served = served_by here come side in
+    messages_at events served head body trailers (λ ended. further (behind_by place events here head body trailers used side served ended))
+
+-- that is behind the fewest events over which it is whole
 abbrev pub messages_once : Place → List (Timed Event) → Here → RequestHead → Body → List (List ℕ × List ℕ) → ℕ → Option ℕ → (Here → List Message) → List Message
 messages_once place events here head body trailers used None further = []
 messages_once place events here head body trailers used (Some come) further =
-    let side = parked_for_head place head here.parked in
-    messages_at events (served_by here come side) head body trailers (λ ended. further (behind_by here used come ended side))
+    let parked = still_parked (take come events) here.parked here.opened here.used in
+    messages_by place events here head body trailers used come (parked_for_head place head parked) further
 
 abbrev pub messages_of : Place → List (Timed Event) → Here → Item RequestHead → (Here → List Message) → List Message
 messages_of place events here (complete head body trailers used) further =

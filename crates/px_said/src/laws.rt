@@ -53,7 +53,8 @@ pub fn what_goes_on_is_sent_on_as_it_comes()
 
 /// What is due from a place on is what is due by the time that the walk comes by another place, and then what is due from there on: so what is said of the flows
 /// from a place on is said of a part of what is due. By the moves of a conversation it is what is due by them. Each flow that is asked about begins where the walk
-/// comes by a place where its request is awaited. The first flows of what is due are all of it where they are as many as its commands.
+/// comes by a place where its request is awaited; in front of its question stands what that place owes while it waits, the close of a parked side of which a byte came. The first flows of what is due are all of it where they
+/// are as many as its commands.
 pub fn what_is_due_goes_on_from_each_place()
     ensures on { (made : Made) (here there : Walk) (due : List Command) → ComesBy made here there due → due_from made here ≡ due ++ due_from made there }
     ensures moves { (made : Made) (place : Standing) (moves : List Move) → due_by (http_chain sequence made) place moves ≡ due_from made (by_moves place moves) }

@@ -6,8 +6,9 @@
 //! the few things that differ.
 //!
 //! So over `GET / HTTP/1.1` CRLF `Host: h` CRLF CRLF, twice, the closed form is a dial of server 0, the text of the first request to it, the interim responses and the final one that server 0 sent, to the client; and then, where
-//! the connection goes on, the same of the second request and of server 1, which is dialled once the first response is whole. What was read is the first request, those responses, the second request, and its responses: each
-//! text says one of these, in this order and without a gap.
+//! the connection goes on, the same of the second request, without a dial: its text goes to server 0 too, once it and the first response are whole. Where it goes to another host, or a byte of server 0 came behind its first
+//! response, or its close, by the time that the second request was whole, server 1 is dialled for it. What was read is the first request, those responses, the second request, and its responses: each text says one of these, in
+//! this order and without a gap.
 //!
 //! Over any size that the replies allow it is the same by each side's line: `specs/Lines.antt` has the closed form where a message may be streamed, a request, a response, or both at once, and `specs/WhatCame.antt` what its texts
 //! say. With both at once what goes to a server is in no order with what goes to the client, so there what is due is compared with the closed form in each view of `px_event`. Over `POST / HTTP/1.1` with a body that is streamed, server
