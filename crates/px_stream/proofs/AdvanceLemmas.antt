@@ -28,9 +28,10 @@ use Rattle.px_exchange.specs.Bodies.{content_of}
 use Rattle.px_exchange.specs.Flows.{response_of}
 use Rattle.px_exchange.specs.Requests.{is_head}
 use Rattle.px_exchange.proofs.BodyLemmas.{come}
-use Rattle.px_chain.specs.Chain.{begin_up, behind, come_down, end_up, goes_to, gone_up, is_sequence, is_unheard, look, parked_for, pass, sequence, sight_begun, sight_come, sight_gone, sight_past, so_far}
+use Rattle.px_chain.specs.Chain.{begin_up, behind, come_down, end_up, goes_to, gone_up, is_sequence, look, pass, sequence, sight_begun, sight_come, sight_gone, sight_past, so_far, waits_at}
 use Rattle.px_chain.specs.Coming.{streams_in}
 use Rattle.px_chain.specs.Going.{goes_up}
+use Rattle.px_chain.specs.Keeping.{strays}
 use Rattle.px_chain.specs.Sights.{Sight}
 use Rattle.px_chain.specs.Stages.{At, Stage, all_sent, busy, coming_down, request_body, response_body}
 use Rattle.px_chain.proofs.ChainLaws.{onward_stays, onward_twice, passes_once}
@@ -44,8 +45,8 @@ use Rattle.px_stream.specs.Comings.{may_exceed, may_exceed_by, may_stream, strea
 use Rattle.px_stream.specs.Looks.{LookFound, LookedAt}
 use Rattle.px_stream.specs.Goings.{may_go_up_by}
 use Rattle.px_stream.specs.GoingUp.{GoesUp, GoneTo, HasNoMoreUp, IsGone, IsGoneFor, Raised, RestsUp, is_rising}
-use Rattle.px_stream.specs.Passes.{Advances, CameTo, HasNoMore, HasNoMoreDown, IsCome, IsPassed, PassedBy, PassedTo, is_passing, streams_by}
-use Rattle.px_stream.specs.Stands.{HasPlace, HasRequest, HasSide, HoldsNone, HoldsWhole, IsIn, IsReady, PhaseAt, ReadsBody, ReadsReturn, SentOn, sent_on, stage_of, used_in}
+use Rattle.px_stream.specs.Passes.{Advances, CameTo, HasNoMore, HasNoMoreDown, IsCome, IsPassed, Passed, PassedBy, PassedTo, is_passing, streams_by}
+use Rattle.px_stream.specs.Stands.{HasPlace, HasRequest, HasSide, HoldsNone, HoldsWhole, IsIn, IsReady, NoneParked, PhaseAt, ReadsBody, ReadsReturn, SentOn, sent_on, stage_of, used_in}
 use Rattle.px_stream.specs.Turns.{LooksOnce}
 use Rattle.px_stream.proofs.CameLemmas.{judged, read_as}
 use Rattle.px_stream.proofs.LookLemmas.{advanced}
@@ -53,26 +54,41 @@ use Rattle.px_stream.proofs.PassesLemmas.{passes_follow}
 use Rattle.px_stream.proofs.ReadUpLemmas.{asked_length, head_is, item_is}
 use Rattle.px_stream.proofs.RequestLemmas.{requests_go_up}
 use Rattle.px_stream.proofs.SettledLemmas.{come_stays, gone_up_keeps, once_stays, passes_quiet, past_keeps}
+use Rattle.px_stream.proofs.StrayLemmas.{pass_apart, pass_strays, sequence_apart}
 
 -- the stage that is passed to, where flows go on in sequence
 abbrev pub passed_to : Terms → Stage → Sight → Stage
 passed_to made stage seen = sequence (pass made stage seen).stage
 
--- all that a stage owes in a sight, beside what is owed from before
+-- all that a stage owes in a sight, beside what is owed from before, but for the close of a parked side of which a byte came
 abbrev pub owed_at : Terms → Stage → Sight → List Command
-owed_at made stage seen = so_far made stage seen ++ found_with (behind stage seen) (look made stage seen)
+owed_at made stage seen = waits_at made stage seen ++ found_with (behind stage seen) (look made stage seen)
 
 -- the same, passing included
 abbrev pub owed_in : Terms → Stage → Sight → List Command
 owed_in made stage seen = (pass made stage seen).owed ++ owed_at made (passed_to made stage seen) (sight_past made stage seen)
 
--- Behind what was done the machine passed and looked once: what was sent on before, and what it added, are in each view what is owed there, and
--- it is where the stage is passed.
+-- Behind what was done the machine passed and looked once: what was sent on before, and what it added, are in each view what is owed there, but for
+-- that close, and it is where the stage is passed.
 pub record AdvancedTo (made : Terms) (after : Stream) (stage : Stage) (seen : Sight) (sent : SentOn) (out longer : List Command) : Type 0 where
   pub more : List Command
   pub grown : longer ≡ out ++ more
   pub owes : (view : View) → seen_of view (sent_on stage sent ++ more) ≡ seen_of view (owed_in made stage seen)
   pub is_in : IsIn made after (passed_to made stage seen) (sight_past made stage seen)
+
+-- what is owed in all: the close of a parked side of which a byte came, and all else
+pub all_owed : (made : Terms) (stage : Stage) (seen : Sight) →
+    (pass made stage seen).owed ++ (so_far made (passed_to made stage seen) (sight_past made stage seen) ++ found_with (behind (passed_to made stage seen) (sight_past made stage seen)) (look made (passed_to made stage seen) (sight_past made stage seen)))
+    ≡ strays stage seen ++ owed_in made stage seen
+all_owed made stage seen =
+    let owed : List Command = (pass made stage seen).owed in
+    let to : Stage = passed_to made stage seen in
+    let past : Sight = sight_past made stage seen in
+    let stray : List Command = strays to past in
+    let rest : List Command = found_with (behind to past) (look made to past) in
+    ap (λ l. owed ++ l) (append_assoc stray (waits_at made to past) rest)
+    ∙ (sym (append_assoc owed stray (owed_at made to past))
+    ∙ (ap (λ l. l ++ owed_at made to past) (pass_strays made stage seen) ∙ append_assoc (strays stage seen) owed (owed_at made to past)))
 
 -- ---- a response that is never streamed
 
@@ -144,7 +160,6 @@ never_goes head all most seen finish is holds =
 -- so one of which nothing is held is kept
 kept_up : (place : Place) (at : At) (flow : Flow) (given : Option Response) (most : Option ℕ) (seen : Sight) (content : List ℕ) (requests : State) → ReadsBody given most seen content None requests → IsGoneFor place at flow (request_body given most) seen
 kept_up place at flow None most seen content requests is =
-    ap (λ b. b && is_unheard (parked_for place flow.request at.parked) seen)
     (never_goes is.head (is.marks ++ (to_come requests).marks) most seen (behind_bytes (length is.reads.used) (to_come requests).finish) (come request (asks is.head ∷ is.marks) seen.client false requests is.reads) is.holds)
 kept_up place at flow (Some given) most seen content requests is = tt
 
@@ -323,7 +338,7 @@ place_at at ready.Over seen closed is = tt
 
 -- ---- one look, where passing has gone on
 
-module _ (made : Terms) (between after : Stream) (moment : ℕ) (looked : Wanted) (out longer : List Command) (stage : Stage) (seen : Sight) (sent : SentOn) (terms : between.terms ≡ made) (now : moment ≡ seen.now)
+module _ (made : Terms) (between after : Stream) (moment : ℕ) (looked : Wanted) (out longer : List Command) (stage : Stage) (seen : Sight) (sent : SentOn) (apart : NoneParked stage) (terms : between.terms ≡ made) (now : moment ≡ seen.now)
     (is_ready : IsReady made between.at between.requests between.side looked stage seen sent) (place : HasPlace stage seen between.at between.client_closed) (goes : sequence stage ≡ stage) (kept : IsPassed made.place stage seen)
     (no_more : HasNoMore looked between.requests between.side) (once : LooksOnce between after moment looked out longer) where
   abbrev there : Stage
@@ -341,6 +356,7 @@ module _ (made : Terms) (between after : Stream) (moment : ℕ) (looked : Wanted
   looked_in =
       let quiet = passes_quiet made stage seen goes kept in record {
         terms = once.terms ∙ terms;
+        apart = pass_apart made stage seen apart;
         place = subst (λ a. HasPlace there past a after.client_closed) (sym once.at)
             (subst (λ c. HasPlace there past between.at c) (sym once.client) (quiet.place between.at between.client_closed place));
         phase = subst (λ a. PhaseAt (look made there past) made a after.requests after.side after.phase there past) (sym once.at) looked_there.phase;
@@ -424,7 +440,7 @@ module _ (made : Terms) (at now : At) (old new : State) (side later : Option Lin
       (subst (λ s. GoneTo made stage seen at old s next before out out) (sym sides)
       (subst (λ n. GoneTo made stage seen at old side n before out out) (sym is_there) is))))
 
-module _ (made : Terms) (before after : Stream) (moment : ℕ) (looked : Wanted) (out longer : List Command) (stage : Stage) (seen : Sight) (sent : SentOn) (terms : before.terms ≡ made) (now : moment ≡ seen.now)
+module _ (made : Terms) (before after : Stream) (moment : ℕ) (looked : Wanted) (out longer : List Command) (stage : Stage) (seen : Sight) (sent : SentOn) (apart : NoneParked stage) (terms : before.terms ≡ made) (now : moment ≡ seen.now)
     (is_ready : IsReady made before.at before.requests before.side looked stage seen sent) (place : HasPlace stage seen before.at before.client_closed) (call : Advances before after moment looked out longer) where
   abbrev risen : Stream
   risen = call.risen
@@ -459,7 +475,7 @@ module _ (made : Terms) (before after : Stream) (moment : ℕ) (looked : Wanted)
       let its_place : HasPlace stage seen between.at between.client_closed =
       subst (λ a. HasPlace stage seen a between.client_closed) (sym at_same) (subst (λ c. HasPlace stage seen before.at c) (sym (call.passes.client ∙ call.rises.client)) place) in
       let once : LooksOnce between after moment call.next out longer = subst (λ l. LooksOnce between after moment call.next l longer) (held.gives ∙ rest.gives) call.looks in
-      looked_to made between after moment call.next out longer stage seen sent (call.passes.terms ∙ (call.rises.terms ∙ terms)) now
+      looked_to made between after moment call.next out longer stage seen sent apart (call.passes.terms ∙ (call.rises.terms ∙ terms)) now
       (same_ready made before.at between.at before.requests between.requests before.side between.side looked call.next at_same requests_same side_same there_same stage seen sent is_ready)
       its_place goes kept
       (same_more made before.at between.at before.requests between.requests before.side between.side looked call.next at_same requests_same side_same there_same
@@ -508,7 +524,9 @@ module _ (made : Terms) (before after : Stream) (moment : ℕ) (looked : Wanted)
         let keeps = gone_up_keeps made stage seen in
         subst (λ s. CameTo made going left between.at between.requests s call.next (sent_on going gt.sent) call.raised call.given) (sym side)
         (passes_follow made risen.at between.at left risen.requests between.requests risen.side call.passes.middle moment risen.client_closed call.raised call.given gt.sent (now ∙ sym keeps.now) going call.gone call.next
-        gt.is_ready place_gone gt.is_gone gt.no_more is passed requests)
+        gt.is_ready place_gone gt.is_gone gt.no_more is
+        (subst (λ (t : Terms). Passed t.place risen.at between.at moment (used_in risen.side) risen.client_closed call.gone call.next risen.side call.passes.middle call.raised call.given) (call.rises.terms ∙ terms) passed)
+        requests)
     come_by false is (held, requests, side) =
         let same : stage_of risen.at call.gone ≡ going = gt.is_ready.is_stage in
         let come : IsCome going left = subst (λ s. IsCome s left) same
@@ -561,8 +579,9 @@ module _ (made : Terms) (before after : Stream) (moment : ℕ) (looked : Wanted)
         let stage_same : (pass made to past).stage ≡ to = ap (λ (t : Turn Stage Command). t.stage) once in
         let goes : sequence to ≡ to = onward_twice sequence (is_sequence refl) (pass made stage seen).stage in
         let its_terms : between.terms ≡ made = call.passes.terms ∙ (call.rises.terms ∙ terms) in
-        let at_there = looked_there made between after moment call.next call.given longer to past passed.sent its_terms (now ∙ sym keeps.now) passed.is_ready its_place goes passed.is_passed passed.no_more call.looks in
-        let in_there = looked_in made between after moment call.next call.given longer to past passed.sent its_terms (now ∙ sym keeps.now) passed.is_ready its_place goes passed.is_passed passed.no_more call.looks in
+        let to_apart : NoneParked to = sequence_apart (pass made stage seen).stage (pass_apart made stage seen apart) in
+        let at_there = looked_there made between after moment call.next call.given longer to past passed.sent to_apart its_terms (now ∙ sym keeps.now) passed.is_ready its_place goes passed.is_passed passed.no_more call.looks in
+        let in_there = looked_in made between after moment call.next call.given longer to past passed.sent to_apart its_terms (now ∙ sym keeps.now) passed.is_ready its_place goes passed.is_passed passed.no_more call.looks in
         let same : owed_at made (pass made to past).stage (sight_past made to past) ≡ owed_at made to past = ap (λ s. owed_at made s (sight_past made to past)) stage_same ∙ ap (λ s. owed_at made to s) stays.left in
         record {
           more = passed.more ++ at_there.more;

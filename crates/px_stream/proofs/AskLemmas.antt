@@ -1,6 +1,6 @@
 -- What is asked about at a stage: whether it is a dial, how many answers are left there, and the ask that the stage finds.
 use Rattle.std.proofs.Common.{◌≡◌, ℕ, Bool, true, false, List, [], ◌∷◌, Option, Some, None, refl, ap, sym, ◌∙◌, subst}
-use Rattle.std.specs.Prelude.{not, if◌then◌else◌, ⊤}
+use Rattle.std.specs.Prelude.{◌==◌, ◌&&◌, not, if◌then◌else◌, ⊤}
 use Rattle.px_message.specs.declared.fault.Fault.{Fault}
 use Rattle.px_message.specs.declared.flow.Flow.{Flow}
 use Rattle.px_event.specs.declared.command.Command.{Command}
@@ -16,15 +16,16 @@ use Rattle.px_exchange.specs.declared.ending.Used.{Used}
 use Rattle.px_exchange.specs.declared.terms.Terms.{Terms}
 use Rattle.px_exchange.specs.Finds.{is_relayed, look_answer, look_body, look_head, look_judged, look_returned, or_leaves}
 use Rattle.px_exchange.specs.Requests.{judged}
-use Rattle.px_chain.specs.Chain.{bad_or, find, leaving, look, look_up}
+use Rattle.px_chain.specs.Chain.{bad_or, find, find_unspoilt, leaving, look, look_up}
+use Rattle.px_chain.specs.Keeping.{unspoilt, unspoilt_at}
 use Rattle.px_chain.specs.Left.{stage_left}
 use Rattle.px_chain.specs.Behind.{dials_at}
 use Rattle.px_chain.specs.Sights.{Sight, answers_in, request_in, server_in, server_parked}
-use Rattle.px_chain.specs.Stages.{At, Sent, Stage, all_sent, busy, coming_down, connection, given_body, given_head, going_up, idle, next, over, place_of, request_body, response_body, response_head, upgraded}
+use Rattle.px_chain.specs.Stages.{At, Doing, Sent, Stage, all_sent, busy, coming_down, connection, given_body, given_head, going_up, idle, next, over, place_of, request_body, response_body, response_head, upgraded}
 use Rattle.px_stream.specs.declared.phase.Asked.{Asked}
 use Rattle.px_stream.specs.declared.phase.Asked.TheVariants as asked
 use Rattle.px_stream.specs.declared.phase.Phase.TheVariants as phase
-use Rattle.px_stream.specs.Stands.{answer_asked, asked_in, asked_of, bare, body_asked, head_asked, judged_asked, returned_asked}
+use Rattle.px_stream.specs.Stands.{answer_asked, asked_for, asked_in, asked_of, bare, body_asked, head_asked, judged_asked, returned_asked}
 use Rattle.px_stream.specs.Tells.{asked_left, uses_side}
 use Rattle.px_stream.specs.Turns.{is_dial, used_at}
 
@@ -49,6 +50,23 @@ uses_of (busy at flow (response_head server how)) = true
 uses_of (busy at flow (response_body server how most)) = true
 uses_of (busy at flow (coming_down server how)) = true
 uses_of stage = false
+
+-- it is the hook of a whole response that came of a server
+abbrev pub returns : Asked → Bool
+returns (asked.ResponseBody flow server up) = true
+returns found = false
+
+abbrev pub returns_at : Stage → Bool
+returns_at stage = uses_of stage && (stage_left stage == 1)
+
+returns_so : (found : Asked) → returns found ≡ (uses_side (phase.Asked found) && (asked_left found == 1))
+returns_so (asked.Idle flow expects) = refl
+returns_so (asked.RequestBody flow) = refl
+returns_so (asked.Connection flow server up) = refl
+returns_so (asked.ResponseHead flow server up) = refl
+returns_so (asked.ResponseBody flow server up) = refl
+returns_so (asked.GivenHead flow) = refl
+returns_so (asked.GivenBody flow) = refl
 
 module _ (at : At) (seen : Sight) where
   abbrev now : ℕ
@@ -111,7 +129,7 @@ up_facts at seen dials count uses those sent ends l None is = tt
 up_facts at seen dials count uses those all_sent ends l (Some found) is = is
 up_facts at seen dials count uses those going_up ends l (Some found) is = (is.0, is.1, is.2, is.3, bad_facts (request_in seen) ends l found is.4)
 
-facts_in : (terms : Terms) (stage : Stage) (seen : Sight) → Facts (place_of stage) seen (dials_at stage) (stage_left stage) (uses_of stage) (used_of stage seen) (find terms stage seen) (asked_in terms stage seen)
+facts_in : (terms : Terms) (stage : Stage) (seen : Sight) → Facts (place_of stage) seen (dials_at stage) (stage_left stage) (uses_of stage) (used_of stage seen) (find_unspoilt terms stage seen) (asked_in terms stage seen)
 facts_in terms (idle at) seen = head_facts at seen terms (request_in seen)
 facts_in terms (busy at flow (request_body given most)) seen = body_facts at seen flow (request_in seen)
 facts_in terms (busy at flow (connection sent)) seen = (refl, refl, refl, refl, refl)
@@ -145,25 +163,99 @@ bare_facts at seen dials count uses those l (asked.ResponseBody flow server up) 
 bare_facts at seen dials count uses those l (asked.GivenHead flow) is = is
 bare_facts at seen dials count uses those l (asked.GivenBody flow) is = is
 
+-- what is asked is the same whatever is parked
+judged_apart : (terms : Terms) (at : At) (seen : Sight) (head : ReadRequest) (made : Judged) → judged_asked terms (unspoilt_at at seen) head made seen.now ≡ judged_asked terms at head made seen.now
+judged_apart terms at seen head (Refused fault) = refl
+judged_apart terms at seen head (Accepted message) = refl
+judged_apart terms at seen head (Connects address) = refl
+
+head_apart : (terms : Terms) (at : At) (seen : Sight) (o : Option ReadRequest) → head_asked terms (unspoilt_at at seen) o seen.now ≡ head_asked terms at o seen.now
+head_apart terms at seen None = refl
+head_apart terms at seen (Some head) = judged_apart terms at seen head (judged terms.place head)
+
+for_apart : (at : At) (flow : Flow) (doing : Doing) (seen : Sight) → asked_for (unspoilt_at at seen) flow doing seen ≡ asked_for at flow doing seen
+for_apart at flow (request_body given most) seen = refl
+for_apart at flow (connection sent) seen = refl
+for_apart at flow (response_head server how) seen = refl
+for_apart at flow (response_body server how most) seen = refl
+for_apart at flow (coming_down server how) seen = refl
+for_apart at flow (upgraded server) seen = refl
+for_apart at flow given_head seen = refl
+for_apart at flow given_body seen = refl
+
+pub asked_apart : (terms : Terms) (stage : Stage) (seen : Sight) → asked_in terms (unspoilt stage seen) seen ≡ asked_in terms stage seen
+asked_apart terms (idle at) seen = head_apart terms at seen (head_in (request_in seen))
+asked_apart terms (busy at flow doing) seen = for_apart at flow doing seen
+asked_apart terms (next at) seen = refl
+asked_apart terms over seen = refl
+
+-- and so is what a stage can ask
+dials_apart : (stage : Stage) (seen : Sight) → dials_at (unspoilt stage seen) ≡ dials_at stage
+dials_apart (idle at) seen = refl
+dials_apart (busy at flow doing) seen = refl
+dials_apart (next at) seen = refl
+dials_apart over seen = refl
+
+left_doing : (at : At) (flow : Flow) (doing : Doing) (seen : Sight) → stage_left (busy (unspoilt_at at seen) flow doing) ≡ stage_left (busy at flow doing)
+left_doing at flow (request_body given most) seen = refl
+left_doing at flow (connection sent) seen = refl
+left_doing at flow (response_head server how) seen = refl
+left_doing at flow (response_body server how most) seen = refl
+left_doing at flow (coming_down server how) seen = refl
+left_doing at flow (upgraded server) seen = refl
+left_doing at flow given_head seen = refl
+left_doing at flow given_body seen = refl
+
+left_apart : (stage : Stage) (seen : Sight) → stage_left (unspoilt stage seen) ≡ stage_left stage
+left_apart (idle at) seen = refl
+left_apart (busy at flow doing) seen = left_doing at flow doing seen
+left_apart (next at) seen = refl
+left_apart over seen = refl
+
+uses_doing : (at : At) (flow : Flow) (doing : Doing) (seen : Sight) → uses_of (busy (unspoilt_at at seen) flow doing) ≡ uses_of (busy at flow doing)
+uses_doing at flow (request_body given most) seen = refl
+uses_doing at flow (connection sent) seen = refl
+uses_doing at flow (response_head server how) seen = refl
+uses_doing at flow (response_body server how most) seen = refl
+uses_doing at flow (coming_down server how) seen = refl
+uses_doing at flow (upgraded server) seen = refl
+uses_doing at flow given_head seen = refl
+uses_doing at flow given_body seen = refl
+
+uses_apart : (stage : Stage) (seen : Sight) → uses_of (unspoilt stage seen) ≡ uses_of stage
+uses_apart (idle at) seen = refl
+uses_apart (busy at flow doing) seen = uses_doing at flow doing seen
+uses_apart (next at) seen = refl
+uses_apart over seen = refl
+
 module _ (terms : Terms) (stage : Stage) (seen : Sight) (found : Asked) (is : asked_in terms stage seen ≡ Some (bare found)) where
-  facts : Facts (place_of stage) seen (dials_at stage) (stage_left stage) (uses_of stage) (used_of stage seen) (find terms stage seen) (Some found)
-  facts = bare_facts (place_of stage) seen (dials_at stage) (stage_left stage) (uses_of stage) (used_of stage seen) (find terms stage seen) found (subst (Facts (place_of stage) seen (dials_at stage) (stage_left stage) (uses_of stage) (used_of stage seen) (find terms stage seen)) is (facts_in terms stage seen))
+  abbrev apart : Stage
+  apart = unspoilt stage seen
+
+  facts : Facts (place_of apart) seen (dials_at apart) (stage_left apart) (uses_of apart) (used_of apart seen) (find terms stage seen) (Some found)
+  facts =
+      bare_facts (place_of apart) seen (dials_at apart) (stage_left apart) (uses_of apart) (used_of apart seen) (find terms stage seen) found
+      (subst (Facts (place_of apart) seen (dials_at apart) (stage_left apart) (uses_of apart) (used_of apart seen) (find terms stage seen)) (asked_apart terms stage seen ∙ is) (facts_in terms apart seen))
 
   -- it is a dial where a connection is awaited
   pub dial_asked : is_dial found ≡ dials_at stage
-  dial_asked = facts.0
+  dial_asked = facts.0 ∙ dials_apart stage seen
 
   -- as many answers are left as the stage can ask for
   pub left_asked : asked_left found ≡ stage_left stage
-  left_asked = facts.1
+  left_asked = facts.1 ∙ left_apart stage seen
 
-  -- it uses the side that the stage uses
-  pub used_asked : used_at (place_of stage) found seen ≡ used_of stage seen
+  -- it uses the side that the stage uses, unless the keeping of a parked one has ended
+  pub used_asked : used_at (place_of apart) found seen ≡ used_of apart seen
   used_asked = facts.3
 
   -- if it uses one
   pub uses_asked : uses_side (phase.Asked found) ≡ uses_of stage
-  uses_asked = facts.2
+  uses_asked = facts.2 ∙ uses_apart stage seen
+
+  -- and it asks about a whole response where the stage does
+  pub whole_asked : returns found ≡ returns_at stage
+  whole_asked = returns_so found ∙ (ap (λ b. b && (asked_left found == 1)) uses_asked ∙ ap (λ n. uses_of stage && (n == 1)) left_asked)
 
   asks_by : (closed : Bool) (leaves : List Command) (l : Look Command) (ask : Command) → or_leaves closed leaves l ≡ Asks ask → AsksOf l found → asks_in ask ≡ asked_of found ∷ []
   asks_by true leaves NotYet ask asks of = absurd (let no : Ends leaves ≡ Asks ask = asks in cc)
@@ -173,4 +265,4 @@ module _ (terms : Terms) (stage : Stage) (seen : Sight) (found : Asked) (is : as
 
   -- and the ask that is found asks just that
   pub ask_asked : (ask : Command) → look terms stage seen ≡ Asks ask → asks_in ask ≡ asked_of found ∷ []
-  ask_asked ask asks = asks_by seen.closed (leaving stage seen) (find terms stage seen) ask asks facts.4
+  ask_asked ask asks = asks_by seen.closed (leaving apart seen) (find terms stage seen) ask asks facts.4

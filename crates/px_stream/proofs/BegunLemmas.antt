@@ -1,5 +1,5 @@
 -- Where it is known first that a request is streamed, the machine begins to send it as the chain does.
-use Rattle.std.proofs.Common.{◌≡◌, ℕ, ◌≤◌, Bool, true, false, ◌&&◌, List, [], ◌∷◌, ◌++◌, length, drop, Option, Some, None, refl, ap, sym, ◌∙◌, subst, append_assoc, arith}
+use Rattle.std.proofs.Common.{◌≡◌, ℕ, ◌≤◌, Bool, true, false, List, [], ◌∷◌, ◌++◌, length, drop, Option, Some, None, refl, ap, sym, ◌∙◌, subst, append_assoc, arith}
 use Rattle.std.proofs.lemmas.Grind.{flat_map-append}
 use Rattle.std.proofs.lemmas.List.{append-nil}
 use Rattle.px_message.specs.declared.flow.Flow.{Flow}
@@ -24,8 +24,10 @@ use Rattle.px_exchange.specs.Requests.{is_head}
 use Rattle.px_exchange.specs.Texts.{interim_commands}
 use Rattle.px_parts.proofs.TextLemmas.{marks_both}
 use Rattle.px_parts.specs.Texts.{last_text, left_of, marks_text}
-use Rattle.px_chain.specs.Chain.{begins_going, end_up, goes_up_by, is_unheard, parked_for, pass_going, reached, side_if, sight_ended}
+use Rattle.px_chain.specs.Chain.{end_up, goes_up_by, parked_for, pass_going, reached, side_if, sight_ended}
 use Rattle.px_chain.specs.Going.{framed_up, goes_up, going_text, sending_on}
+use Rattle.px_chain.specs.Keeping.{is_silent, unspoilt_at, unspoilt_by}
+use Rattle.px_chain.proofs.KeepingLaws.{silent_nothing}
 use Rattle.px_chain.specs.Sights.{Sight, left_by}
 use Rattle.px_chain.specs.Stages.{At, Parked, Stage, busy, connection, going_up, request_body, response_head, unparked}
 use Rattle.px_stream.specs.declared.going.HeldRequest.{HeldRequest}
@@ -34,14 +36,14 @@ use Rattle.px_stream.specs.declared.phase.Wanted.{Wanted}
 use Rattle.px_stream.specs.declared.phase.Wanted.TheVariants as ready
 use Rattle.px_stream.specs.Comings.{GoesOverHeld}
 use Rattle.px_stream.specs.Goings.{framed_up_by, goes_up_with, up_text}
-use Rattle.px_stream.specs.GoingUp.{DialsUp, HeldUpWent, LedUp, RestsUp, TakesSide, begins_with, unheard_side}
-use Rattle.px_stream.specs.Stands.{IsOpen, IsRead, ReadsBody, ReadsGoing, ReadsLink, ReadsUp, none_sent, parked_link, unread_link}
-use Rattle.px_stream.specs.Turns.{opened_side}
+use Rattle.px_stream.specs.GoingUp.{DialsUp, HeldUpWent, LedUp, RestsUp, TakesSide}
+use Rattle.px_stream.specs.Stands.{IsOpen, IsRead, ReadsBody, ReadsGoing, ReadsLink, ReadsUp, none_sent, parked_link, silent_link, unread_link}
+use Rattle.px_stream.specs.Turns.{opened_side, with_open}
 use Rattle.px_stream.proofs.CameLemmas.{finish_of, none_left}
 use Rattle.px_stream.proofs.KeptLemmas.{behind_whole}
 use Rattle.px_stream.proofs.GoneLemmas.{GoesBy, head_rises, rises_by}
+use Rattle.px_stream.proofs.ParkedLemmas.{open_as}
 use Rattle.px_stream.proofs.ReadUpLemmas.{framed_same, going_is, item_is, streams_is, whole_is}
-use Rattle.px_stream.proofs.SilentLemmas.{unheard_same}
 use Rattle.px_stream.proofs.UnreadLemmas.{unread_reads}
 use Rattle.px_stream.proofs.WentUpLemmas.{UpTo}
 
@@ -53,19 +55,30 @@ no_commands_by versions.Http11 message is = rw is refl
 no_commands : (message : Request) → interim_commands message [] ≡ []
 no_commands message = no_commands_by message.version message refl
 
--- the side that was parked, where the request goes there, is one of which all is to be read
-opened_by : (b : Bool) (asked_head : Bool) (parked : Parked) (server : ℕ) (seen : Sight) → side_if b parked.server ≡ Some server →
-    IsOpen (ReadsLink asked_head server seen.server seen.shut [] []) (opened_side false server asked_head (parked_link (Some parked) seen))
-opened_by true asked_head parked server seen is =
+-- The side that is parked, where the request goes there, is one of which all is to be read: nothing was heard of it.
+opened_by : (b : Bool) (asked_head : Bool) (parked : Parked) (server : ℕ) (seen : Sight) → side_if b parked.server ≡ Some server → is_silent seen.server seen.shut ≡ true →
+    IsOpen (ReadsLink asked_head server seen.server seen.shut [] []) (opened_side false server asked_head (silent_link true parked.server))
+opened_by true asked_head parked server seen is silent =
     let same : parked.server ≡ server = (let e : Some parked.server ≡ Some server = is in cc) in
-    let P : ℕ → Type 0 = λ n. ReadsLink asked_head server seen.server seen.shut [] [] (unread_link n asked_head seen.server seen.shut) in
-    subst P (sym same) (unread_reads asked_head server seen.server seen.shut)
-opened_by false asked_head parked server seen is = absurd (let no : None ≡ Some server = is in cc)
+    let nothing = silent_nothing seen.server seen.shut silent in
+    let P : ℕ → List ℕ → Bool → Type 0 = λ n bytes shut. ReadsLink asked_head server bytes shut [] [] (unread_link n asked_head [] false) in
+    subst (λ n. P n seen.server seen.shut) (sym same) (subst (λ bytes. P server bytes seen.shut) (sym nothing.empty) (subst (P server []) (sym nothing.is_open) (unread_reads asked_head server [] false)))
+opened_by false asked_head parked server seen is silent = absurd (let no : None ≡ Some server = is in cc)
 
-opened_there : (place : Place) (message : Request) (o : Option Parked) (asked_head : Bool) (server : ℕ) (seen : Sight) → parked_for place message o ≡ Some server →
+opened_silent : (place : Place) (message : Request) (parked : Parked) (asked_head : Bool) (server : ℕ) (seen : Sight) (silent : Bool) → is_silent seen.server seen.shut ≡ silent →
+    parked_for place message (unspoilt_by silent (Some parked)) ≡ Some server → IsOpen (ReadsLink asked_head server seen.server seen.shut [] []) (opened_side false server asked_head (silent_link silent parked.server))
+opened_silent place message parked asked_head server seen true silent is = opened_by (is_same_address parked.address (server_for place message)) asked_head parked server seen is silent
+opened_silent place message parked asked_head server seen false silent is = absurd (let no : None ≡ Some server = is in cc)
+
+none_for : (place : Place) (message : Request) (silent : Bool) → parked_for place message (unspoilt_by silent None) ≡ None
+none_for place message true = refl
+none_for place message false = refl
+
+opened_there : (place : Place) (message : Request) (o : Option Parked) (asked_head : Bool) (server : ℕ) (seen : Sight) → parked_for place message (unspoilt_by (is_silent seen.server seen.shut) o) ≡ Some server →
     IsOpen (ReadsLink asked_head server seen.server seen.shut [] []) (opened_side false server asked_head (parked_link o seen))
-opened_there place message None asked_head server seen is = absurd (let no : None ≡ Some server = is in cc)
-opened_there place message (Some parked) asked_head server seen is = opened_by (is_same_address parked.address (server_for place message)) asked_head parked server seen is
+opened_there place message None asked_head server seen is =
+    absurd (let no : None ≡ Some server = sym (none_for place message (is_silent seen.server seen.shut)) ∙ is in cc)
+opened_there place message (Some parked) asked_head server seen is = opened_silent place message parked asked_head server seen (is_silent seen.server seen.shut) refl is
 
 no_less : (n m : ℕ) → n ≡ 0 → n ≤ m
 no_less n m is = omega arith
@@ -137,23 +150,16 @@ module _ (terms : Terms) (at now : At) (flow : Flow) (most : Option ℕ) (seen :
   none_to_come = none_left got request (asks head ∷ all) seen.client false new reads_all has_come
 
   -- it is judged as the chain judges it
-  judged : goes_up most seen ≡ goes_up_with more.read most (length body)
+  pub judged : goes_up most seen ≡ goes_up_with more.read most (length body)
   judged =
       let ended = finish_of got (request_reading seen.client) (asks head ∷ all) seen.client new has_come in
       streams_is seen head all ended.0 ended.1 more.read most was_read ∙ ap (λ l. goes_up_with more.read most (length l)) (sym body_is)
-
-  -- and it begins to go up where the chain has it begin
-  pub begins_as : begins_going terms.place at flow most seen ≡ begins_with terms.place at flow side (goes_up_with more.read most (length body))
-  begins_as =
-      let its : Option ℕ = parked_for terms.place flow.request at.parked in
-      ap (λ b. b && is_unheard its seen) judged
-      ∙ ap (λ b. goes_up_with more.read most (length body) && b) (unheard_same terms.place flow.request at.parked seen ∙ ap (unheard_side its) (sym parked))
 
   abbrev Begins : Stage → Type 0
   Begins stage = GoesBy terms (end_up terms stage seen) (sight_ended stage seen) now new later next [] out longer
 
   -- it is kept on
-  kept_on : begins_going terms.place at flow most seen ≡ false → RestsUp at now next (ready.RequestBody flow None most body (Some more)) side later out longer → Begins (busy at flow (request_body None most))
+  kept_on : goes_up most seen ≡ false → RestsUp at now next (ready.RequestBody flow None most body (Some more)) side later out longer → Begins (busy at flow (request_body None most))
   kept_on none rests =
       let stage : Stage = busy at flow (request_body None most) in
       let P : At → Wanted → Option Link → Type 0 = λ a n s. GoesBy terms (end_up terms stage seen) (sight_ended stage seen) a new s n [] out longer in
@@ -204,7 +210,7 @@ module _ (terms : Terms) (at now : At) (flow : Flow) (most : Option ℕ) (seen :
       })))
 
   -- or it goes to the side that was parked
-  takes : (server : ℕ) (moment : ℕ) (goes : Request) → moment ≡ seen.now → parked_for terms.place flow.request at.parked ≡ Some server → goes ≡ framed_up_by more.read (sending_on flow).request →
+  takes : (server : ℕ) (moment : ℕ) (goes : Request) → moment ≡ seen.now → parked_for terms.place flow.request (unspoilt_at at seen).parked ≡ Some server → goes ≡ framed_up_by more.read (sending_on flow).request →
       TakesSide terms.place at now moment (sending_on flow) server goes got (request_head_text goes (form_at terms.place) ++ more.said.items) next side later out longer → Begins (goes_up_by (Some server) terms.place at (sending_on flow))
   takes server moment goes at_now there framed side_taken =
       let text : List ℕ = request_head_text goes (form_at terms.place) ++ more.said.items in
@@ -221,12 +227,18 @@ module _ (terms : Terms) (at now : At) (flow : Flow) (most : Option ℕ) (seen :
       (rises_by terms (unparked at) told server (response_head server going_up) (interim_commands told.request []) none_sent (λ f u. ready.ResponseHead f server u) later seen
       (head_rises terms (unparked at) told server none_sent seen later goes opened) goes text new out longer moment got side_taken.told side_taken.goes at_now first side_taken.went)))
 
-  led : (o : Option ℕ) (moment : ℕ) (goes : Request) → moment ≡ seen.now → parked_for terms.place flow.request at.parked ≡ o → goes ≡ framed_up_by more.read (sending_on flow).request →
+  led : (o : Option ℕ) (moment : ℕ) (goes : Request) → moment ≡ seen.now → parked_for terms.place flow.request (unspoilt_at at seen).parked ≡ o → goes ≡ framed_up_by more.read (sending_on flow).request →
       LedUp o terms.place at now moment (sending_on flow) goes got (request_head_text goes (form_at terms.place) ++ more.said.items) next side later out longer → Begins (goes_up_by o terms.place at (sending_on flow))
   led None moment goes at_now there framed up = dials goes framed up
   led (Some server) moment goes at_now there framed up = takes server moment goes at_now there framed up
 
-  pub begins_by : (b : Bool) (moment : ℕ) → moment ≡ seen.now → begins_going terms.place at flow most seen ≡ b → HeldUpWent b terms.place at now moment flow None most body more got next side later out longer →
-      Begins (pass_going b terms.place at flow most)
-  begins_by true moment at_now streams went = led (parked_for terms.place flow.request at.parked) moment went.sent at_now refl went.sent_as went.led
+  -- it goes to the side that is kept still
+  open_for : parked_for terms.place flow.request (with_open at side).parked ≡ parked_for terms.place flow.request (unspoilt_at at seen).parked
+  open_for = ap (λ (a : At). parked_for terms.place flow.request a.parked) (open_as at seen side parked)
+
+  pub begins_by : (b : Bool) (moment : ℕ) → moment ≡ seen.now → goes_up most seen ≡ b → HeldUpWent b terms.place at now moment flow None most body more got next side later out longer →
+      Begins (pass_going b terms.place at flow most seen)
+  begins_by true moment at_now streams went =
+      let P : Option ℕ → Type 0 = λ o. LedUp o terms.place at now moment (sending_on flow) went.sent got (request_head_text went.sent (form_at terms.place) ++ more.said.items) next side later out longer in
+      led (parked_for terms.place flow.request (unspoilt_at at seen).parked) moment went.sent at_now refl went.sent_as (subst P open_for went.led)
   begins_by false moment at_now streams went = kept_on streams went

@@ -5,7 +5,7 @@ use Rattle.px_event.specs.declared.ask.Ask.{Ask}
 use Rattle.px_event.specs.declared.command.Command.{Command}
 use Rattle.px_event.specs.declared.event.Event.{Event}
 use Rattle.px_event.specs.declared.reply.Reply.{Reply}
-use Rattle.px_event.specs.Chain.{Timed, Look, NotYet, Asks, Ends, Turn}
+use Rattle.px_event.specs.Chain.{Timed, Look, NotYet, Asks, Ends, Turn, found_with}
 use Rattle.px_event.specs.Laws.{owed_over}
 use Rattle.px_event.specs.Layer.{AsksOnly, MayAnswer}
 use Rattle.px_event.specs.View.{View, seen_of}
@@ -19,7 +19,8 @@ use Rattle.px_read.specs.Reader.{State, request, response}
 use Rattle.px_read.specs.declared.head.ResponseHead.{ResponseHead as ReadResponse}
 use Rattle.px_exchange.specs.declared.terms.Terms.{Terms}
 use Rattle.px_exchange.specs.Requests.{is_head}
-use Rattle.px_chain.specs.Chain.{http_chain, is_sequence, look, pass, passed, sequence, sight_past, so_far, stands, turn}
+use Rattle.px_chain.specs.Chain.{behind, http_chain, is_sequence, look, pass, passed, sequence, sight_past, so_far, stands, turn, waits_at}
+use Rattle.px_chain.specs.Keeping.{is_silent, strays, unspoilt, unspoilt_at, unspoilt_by}
 use Rattle.px_chain.specs.Behind.{sight_behind}
 use Rattle.px_chain.specs.Sights.{IsWithin, Sight, Standing, server_in, server_parked, sight_over, sight_with}
 use Rattle.px_chain.specs.Stages.{At, Parked, Stage, busy, coming_down, connection, given_body, given_head, idle, next, over, place_of, request_body, response_body, response_head, side_of, upgraded}
@@ -39,18 +40,20 @@ use Rattle.px_stream.specs.declared.phase.Wanted.{Wanted}
 use Rattle.px_stream.specs.declared.phase.Wanted.TheVariants as ready
 use Rattle.px_stream.specs.declared.stream.Stream.{Stream}
 use Rattle.px_stream.specs.Anywhere.{IsCounted, IsFew, IsInSequence, ResumesAnywhere, Somewhere, TakesAnywhere}
-use Rattle.px_stream.specs.GoingUp.{MayGoUp, MayReadUp, MayTakeSide, ParkedOpen}
-use Rattle.px_stream.specs.Heard.{SideAgrees, requests_take, side_takes}
+use Rattle.px_stream.specs.GoingUp.{MayGoUp, MayReadUp}
+use Rattle.px_stream.specs.Heard.{SideAgrees, requests_take, shut_if, side_takes, stray_in}
 use Rattle.px_stream.specs.Looks.{MayLook}
 use Rattle.px_stream.specs.Passes.{Advances, MayPass, is_passing}
-use Rattle.px_stream.specs.Stands.{AskedSide, GoesOnUp, HasPlace, HasRequest, HasSide, IsAsked, IsAt, IsIn, IsLink, IsOpen, IsPlaced, IsReady, IsSome, LinkKeeps, PhaseAt, ReadsDown, ReadsFinal, ReadsGoing, ReadsReturn, SentOn, WaitsUp, asked_in, awaits, bare, is_last, parked_link, sent_on, stage_of, used_in}
+use Rattle.px_stream.specs.Stands.{AskedSide, GoesOnUp, HasPlace, HasRequest, HasSide, IsAsked, IsAt, IsIn, IsLink, IsOpen, IsPlaced, IsReady, IsSome, LinkEnds, NoneParked, PhaseAt, ReadsDown, ReadsFinal, ReadsGoing, ReadsReturn, SentOn, WaitsUp, asked_in, asked_of, awaited_in, awaits, bare, is_last, parked_link, sent_on, silent_link, stage_of, used_in}
 use Rattle.px_stream.proofs.StateLaws.{ends_last, ends_where_it_ends}
-use Rattle.px_stream.specs.Tells.{sequence_left}
-use Rattle.px_stream.specs.Turns.{Hears, Shows, Turned, TurnsTo, asked_turn, first_sent, requests_behind, turn_gives, used_at}
-use Rattle.px_stream.proofs.AdvanceLemmas.{AdvancedTo, advances_to, owed_at, owed_in, passed_to}
+use Rattle.px_stream.specs.Tells.{sequence_left, uses_side}
+use Rattle.px_stream.specs.Turns.{Hears, Shows, Turned, TurnsTo, asked_turn, first_sent, requests_behind, turn_gives, used_at, with_open}
+use Rattle.px_stream.proofs.AdvanceLemmas.{AdvancedTo, advances_to, all_owed, owed_in, passed_to}
 use Rattle.px_stream.proofs.AskLemmas.{used_asked, used_of}
-use Rattle.px_stream.proofs.HearLemmas.{place_on, ready_on}
+use Rattle.px_stream.proofs.ClearLemmas.{IsClear, turn_clear}
+use Rattle.px_stream.proofs.HearLemmas.{place_on, ready_on, strays_on}
 use Rattle.px_stream.proofs.MoveLemmas.{pass_few, resumes_asks, resumes_left, sequence_few, takes_asks, takes_left, turn_few}
+use Rattle.px_stream.proofs.ParkedLemmas.{open_as, parked_used}
 use Rattle.px_stream.proofs.TurnAskedLemmas.{turn_asked}
 use Rattle.px_stream.proofs.TurnLemmas.{turned}
 
@@ -67,7 +70,6 @@ pub record Answers (before after : Stream) (moment : ℕ) (reply : Reply) (found
 -- It may go on from here, and look.
 pub record MayAdvance (at : At) (requests : State) (side : Option Link) (looked : Wanted) : Type 0 where
   pub goes_up : MayGoUp looked requests
-  pub takes : MayTakeSide at looked side
   pub passes : MayPass at looked side
   pub looks : is_passing looked ≡ false → MayLook looked requests side
 
@@ -80,13 +82,15 @@ MayTurn before moment reply found = (between : Stream) (looked : Wanted) (out lo
 pub record MayHear (at : At) (event : Event) (requests : State) (side : Option Link) (looked : Wanted) : Type 0 where
   pub agrees : SideAgrees side
   pub open_still : requests.closed ≡ false
-  pub advances : MayAdvance at (requests_take event requests) (side_takes event side) looked
+  pub advances : MayAdvance at (requests_take event requests) (side_takes (uses_side (phase.Ready looked)) event side) looked
 
--- What it does with an event, where no answer is awaited: where it has ended nothing, and else it hears it, goes on and looks once.
+-- What it does with an event, where no answer is awaited: where it has ended nothing, and else it hears it, closes a parked side of which a byte came, goes on
+-- and looks once.
 pub data TakesEvent (before after : Stream) (moment : ℕ) (event : Event) (out longer : List Command) : Type 0 where
   ended : is_last before.phase ≡ true → after ≡ before → longer ≡ out → TakesEvent before after moment event out longer
-  hears : (looked : Wanted) (between : Stream) → before.phase ≡ phase.Ready looked → is_last (phase.Ready looked) ≡ false → Hears before between event →
-      Advances between after moment looked out longer → TakesEvent before after moment event out longer
+  hears : (looked : Wanted) (between : Stream) (given : List Command) → before.phase ≡ phase.Ready looked → is_last (phase.Ready looked) ≡ false →
+      Hears (uses_side (phase.Ready looked)) before between event → given ≡ out ++ shut_if (stray_in (uses_side (phase.Ready looked)) event before.side) →
+      Advances between after moment looked given longer → TakesEvent before after moment event out longer
 
 -- behind one list the rest is one
 pub same_tail : (xs ys zs : List Command) → xs ++ ys ≡ xs ++ zs → ys ≡ zs
@@ -106,14 +110,16 @@ module _ (made : Terms) (place : Standing) (prefix : List (Timed Event)) (seen :
   }
 
   -- what is added behind what was owed is what is owed now
-  pub gives_walked : (view : View) (before more : List Command) → seen_of view (before ++ more) ≡ seen_of view (owed_in made place.stage seen) →
+  pub gives_walked : (view : View) (before more : List Command) → seen_of view (before ++ more) ≡ seen_of view (strays place.stage seen ++ owed_in made place.stage seen) →
       seen_of view before ++ seen_of view more ≡ seen_of view (owed_over (http_chain sequence made) place prefix)
   gives_walked view before more owes =
       let sees : Sight = sight_over place prefix in
+      let to : Stage = passed_to made place.stage sees in
       sym (seen_append view before more)
       ∙ (owes
-      ∙ ap (seen_of view) (ap (λ s. owed_in made place.stage s) (sym same)
-      ∙ ap (λ s. (pass made place.stage sees).owed ++ owed_at made (passed_to made place.stage sees) s) (sym (sight_passed sequence (is_sequence refl) made place prefix))))
+      ∙ ap (seen_of view) (ap (λ s. strays place.stage s ++ owed_in made place.stage s) (sym same)
+      ∙ (sym (all_owed made place.stage sees)
+      ∙ ap (λ s. (pass made place.stage sees).owed ++ (so_far made to s ++ found_with (behind to s) (look made to s))) (sym (sight_passed sequence (is_sequence refl) made place prefix)))))
 
 -- ---- what the readers may hear, and look for
 
@@ -204,47 +210,28 @@ may_go_up_by terms at (ready.GivenBody flow) seen sent requests reads = tt
 may_go_up_by terms at (ready.Connects address) seen sent requests reads = tt
 may_go_up_by terms at ready.Over seen sent requests reads = tt
 
--- and its server's side, where that is parked, is open
-parked_open : (parked : Option Parked) (seen : Sight) (side : Option Link) → side ≡ parked_link parked seen → ParkedOpen parked side
-parked_open None seen side is = tt
-parked_open (Some parked) seen side is = let P : Option Link → Type 0 = IsSome in subst P (sym is) tt
-
-may_take_by : (at : At) (looked : Wanted) (seen : Sight) (sent : SentOn) (side : Option Link) → HasSide (stage_of at looked) seen sent looked side → MayTakeSide at looked side
-may_take_by at ready.Idle seen sent side has = tt
-may_take_by at (ready.RequestBody flow given most body None) seen sent side has = tt
-may_take_by at (ready.RequestBody flow given most body (Some held)) seen sent side has = parked_open at.parked seen side has
-may_take_by at (ready.Connection flow up) seen sent side has = tt
-may_take_by at (ready.ResponseHead flow server up) seen sent side has = tt
-may_take_by at (ready.ResponseBody flow server up most body held) seen sent side has = tt
-may_take_by at (ready.ComingDown flow server up its) seen sent side has = tt
-may_take_by at (ready.Upgraded flow server) seen sent side has = tt
-may_take_by at (ready.GivenHead flow) seen sent side has = tt
-may_take_by at (ready.GivenBody flow) seen sent side has = tt
-may_take_by at (ready.Connects address) seen sent side has = tt
-may_take_by at ready.Over seen sent side has = tt
-
 pub may_go_up : (terms : Terms) (at : At) (requests : State) (side : Option Link) (looked : Wanted) (stage : Stage) (seen : Sight) (sent : SentOn) → IsReady terms at requests side looked stage seen sent → MayGoUp looked requests
 may_go_up terms at requests side looked stage seen sent is = may_go_up_by terms at looked seen sent requests (subst (λ s. HasRequest terms s seen sent.up looked requests) (sym is.is_stage) is.request)
-
-pub may_take : (terms : Terms) (at : At) (requests : State) (side : Option Link) (looked : Wanted) (stage : Stage) (seen : Sight) (sent : SentOn) → IsReady terms at requests side looked stage seen sent → MayTakeSide at looked side
-may_take terms at requests side looked stage seen sent is = may_take_by at looked seen sent side (subst (λ s. HasSide s seen sent looked side) (sym is.is_stage) is.has_side)
 
 -- It may go on, and look, where the flow is one of a few.
 pub may_advance : (ahead : ℕ) (terms : Terms) (at : At) (requests : State) (side : Option Link) (looked : Wanted) (stage : Stage) (seen : Sight) (sent : SentOn) → IsFew ahead stage →
     IsReady terms at requests side looked stage seen sent → MayAdvance at requests side looked
 may_advance ahead terms at requests side looked stage seen sent few is = record {
   goes_up = may_go_up terms at requests side looked stage seen sent is;
-  takes = may_take terms at requests side looked stage seen sent is;
   passes = may_pass_by ahead at looked seen sent side (subst (IsFew ahead) (sym is.is_stage) few) (subst (λ s. HasSide s seen sent looked side) (sym is.is_stage) is.has_side);
   looks = λ none. may_look terms at requests side looked stage seen sent is;
 }
 
-parked_agrees : (parked : Option Parked) (seen : Sight) (side : Option Link) → side ≡ parked_link parked seen → SideAgrees side
+pub parked_agrees : (parked : Option Parked) (seen : Sight) (side : Option Link) → side ≡ parked_link parked seen → SideAgrees side
 parked_agrees parked seen side is = subst SideAgrees (sym is) (by parked)
   where
+    silent : (b : Bool) (server : ℕ) → SideAgrees (silent_link b server)
+    silent true server = refl
+    silent false server = tt
+
     by : (parked : Option Parked) → SideAgrees (parked_link parked seen)
     by None = tt
-    by (Some parked) = refl
+    by (Some parked) = silent (is_silent seen.server seen.shut) parked.server
 
 link_agrees : (message : Request) (server : ℕ) (seen : Sight) (sent : List ReadResponse) (told : List Mark) (side : Option Link) → IsOpen (IsLink message server seen sent told) side → SideAgrees side
 link_agrees message server seen sent told None is = absurd is
@@ -300,7 +287,7 @@ pub record LooksAt (made : Terms) (state : Stream) (looked : Wanted) (stage : St
   pub waits : look made stage seen ≡ NotYet
   pub sent : SentOn
   pub ready : IsReady made state.at state.requests state.side looked stage seen sent
-  pub gave : (view : View) → seen_of view (so_far made stage seen) ≡ seen_of view (sent_on stage sent)
+  pub gave : (view : View) → seen_of view (waits_at made stage seen) ≡ seen_of view (sent_on stage sent)
 
 module _ (made : Terms) (state : Stream) (stage : Stage) (seen : Sight) where
   abbrev Found : Look Command → Type 0
@@ -334,15 +321,36 @@ module _ (made : Terms) (state : Stream) (stage : Stage) (seen : Sight) where
 
 -- ---- an event
 
+-- a flow that uses a side closes no parked one, and where none does nothing was sent on
+sent_first : (at : At) (looked : Wanted) (sent : SentOn) (event : Event) (side : Option Link) →
+    sent_on (stage_of at looked) sent ++ shut_if (stray_in (uses_side (phase.Ready looked)) event side) ≡ shut_if (stray_in (uses_side (phase.Ready looked)) event side) ++ sent_on (stage_of at looked) sent
+sent_first at ready.Idle sent event side = sym (append-nil (shut_if (stray_in false event side)))
+sent_first at (ready.RequestBody flow given most body held) sent event side = sym (append-nil (shut_if (stray_in false event side)))
+sent_first at (ready.Connection flow up) sent event side = sym (append-nil (shut_if (stray_in false event side)))
+sent_first at (ready.ResponseHead flow server up) sent event side = append-nil (sent_on (stage_of at (ready.ResponseHead flow server up)) sent)
+sent_first at (ready.ResponseBody flow server up most body held) sent event side = append-nil (sent_on (stage_of at (ready.ResponseBody flow server up most body held)) sent)
+sent_first at (ready.ComingDown flow server up its) sent event side = append-nil (sent_on (stage_of at (ready.ComingDown flow server up its)) sent)
+sent_first at (ready.Upgraded flow server) sent event side = refl
+sent_first at (ready.GivenHead flow) sent event side = sym (append-nil (shut_if (stray_in false event side)))
+sent_first at (ready.GivenBody flow) sent event side = sym (append-nil (shut_if (stray_in false event side)))
+sent_first at (ready.Connects address) sent event side = sym (append-nil (shut_if (stray_in false event side)))
+sent_first at ready.Over sent event side = sym (append-nil (shut_if (stray_in false event side)))
+
+-- so the close of a parked side stands in front of what was sent on
+in_order : (stray sent shut more : List Command) → sent ++ shut ≡ shut ++ sent → (stray ++ sent) ++ (shut ++ more) ≡ (stray ++ shut) ++ (sent ++ more)
+in_order stray sent shut more same =
+    sym (append_assoc (stray ++ sent) shut more)
+    ∙ (ap (λ l. l ++ more) (append_assoc stray sent shut ∙ (ap (λ l. stray ++ l) same ∙ sym (append_assoc stray shut sent))) ∙ append_assoc (stray ++ shut) sent more)
+
 module _ (before after : Stream) (moment : ℕ) (event : Event) (out longer : List Command) where
   -- it heard the event, went on and looked
   heard_in : (made : Terms) (stage : Stage) (seen : Sight) (looked : Wanted) (between : Stream) → IsIn made before stage seen → LooksAt made before looked stage seen →
-      Hears before between event → Advances between after moment looked out longer → (sent : SentOn) → IsReady made before.at before.requests before.side looked stage seen sent →
-      AdvancedTo made after stage (sight_with (side_of stage) seen event moment) sent out longer
-  heard_in made stage seen looked between is there heard once sent ready =
+      Hears (uses_side (phase.Ready looked)) before between event → (given : List Command) → Advances between after moment looked given longer → (sent : SentOn) →
+      IsReady made before.at before.requests before.side looked stage seen sent → AdvancedTo made after stage (sight_with (side_of stage) seen event moment) sent given longer
+  heard_in made stage seen looked between is there heard given once sent ready =
       let later : Sight = sight_with (side_of stage) seen event moment in
       let on = ready_on made seen event moment stage before.at before.requests before.side looked sent there.waits ready in
-      advances_to made between after moment looked out longer stage later sent (heard.terms ∙ is.terms) refl
+      advances_to made between after moment looked given longer stage later sent is.apart (heard.terms ∙ is.terms) refl
       (subst (λ a. IsReady made a between.requests between.side looked stage later sent) (sym heard.at)
       (subst (λ r. IsReady made before.at r between.side looked stage later sent) (sym heard.requests)
       (subst (λ s. IsReady made before.at (requests_take event before.requests) s looked stage later sent) (sym heard.side) on)))
@@ -350,12 +358,16 @@ module _ (before after : Stream) (moment : ℕ) (event : Event) (out longer : Li
       (subst (λ c. HasPlace stage later before.at c) (sym heard.client) (place_on stage seen event moment before.at before.client_closed is.place)))
       once
 
+  behind_close : (given shut more : List Command) → given ≡ out ++ shut → longer ≡ given ++ more → longer ≡ out ++ (shut ++ more)
+  behind_close given shut more gives grown = grown ∙ (ap (λ l. l ++ more) gives ∙ append_assoc out shut more)
+
   take_adds : (made : Terms) (stage : Stage) (seen : Sight) → IsIn made before stage seen → TakesEvent before after moment event out longer → (more : List Command) × (longer ≡ out ++ more)
   take_adds made stage seen is (ended last same none) = ([], none ∙ sym (append-nil out))
-  take_adds made stage seen is (hears looked between live goes heard once) =
+  take_adds made stage seen is (hears looked between given live goes heard gives once) =
       let there = looks_at made before stage seen looked live goes is in
-      let got = heard_in made stage seen looked between is there heard once there.sent there.ready in
-      (got.more, got.grown)
+      let got = heard_in made stage seen looked between is there heard given once there.sent there.ready in
+      let shut : List Command = shut_if (stray_in (uses_side (phase.Ready looked)) event before.side) in
+      (shut ++ got.more, behind_close given shut got.more gives got.grown)
 
   nothing_added : (more : List Command) → longer ≡ out → longer ≡ out ++ more → more ≡ []
   nothing_added more none grown = same_tail out more [] (sym grown ∙ (none ∙ sym (append-nil out)))
@@ -366,18 +378,28 @@ module _ (before after : Stream) (moment : ℕ) (event : Event) (out longer : Li
   takes made more (ended last same none) grown place prefix at =
       let end = (ends_where_it_ends sequence made).ends before place prefix at last in
       past_end end.0 end.1 (subst (λ s. IsAt made s place prefix) (sym same) at) (λ view. ap (seen_of view) (nothing_added more none grown))
-  takes made more (hears looked between live goes heard once) grown place prefix at =
+  takes made more (hears looked between given live goes heard gives once) grown place prefix at =
       let now : Timed Event = record { moment = moment; value = event } in
       let seen : Sight = sight_over place prefix in
       let later : Sight = sight_with (side_of place.stage) seen event moment in
       let there = looks_at made before place.stage seen looked live goes at.is_in in
-      let got = heard_in made place.stage seen looked between at.is_in there heard once there.sent there.ready in
+      let got = heard_in made place.stage seen looked between at.is_in there heard given once there.sent there.ready in
+      let shut : List Command = shut_if (stray_in (uses_side (phase.Ready looked)) event before.side) in
+      let stray : List Command = strays place.stage seen in
+      let sent : List Command = sent_on place.stage there.sent in
+      let on : stray ++ shut ≡ strays place.stage later = strays_on made seen event moment place.stage before.at before.requests before.side looked there.sent there.waits there.ready in
+      let first : sent ++ shut ≡ shut ++ sent = subst (λ s. sent_on s there.sent ++ shut ≡ shut ++ sent_on s there.sent) there.ready.is_stage (sent_first before.at looked there.sent event before.side) in
+      let order : (stray ++ sent) ++ (shut ++ got.more) ≡ strays place.stage later ++ (sent ++ got.more) = in_order stray sent shut got.more first ∙ ap (λ l. l ++ (sent ++ got.more)) on in
       let same : sight_over place (prefix ++ now ∷ []) ≡ later = sight_more place prefix now (open_still made place.stage seen there.waits) at.within in
-      let same_more : got.more ≡ more = same_tail out got.more more (sym got.grown ∙ grown) in
+      let same_more : shut ++ got.more ≡ more = same_tail out (shut ++ got.more) more (sym (behind_close given shut got.more gives got.grown) ∙ grown) in
       onward there.waits (at_walked made place (prefix ++ now ∷ []) later same after (within_more place prefix now at.within) got.is_in)
-      (λ view. ap (λ l. l ++ seen_of view more) (there.gave view)
-      ∙ gives_walked made place (prefix ++ now ∷ []) later same view (sent_on place.stage there.sent) more
-      (subst (λ l. seen_of view (sent_on place.stage there.sent ++ l) ≡ seen_of view (owed_in made place.stage later)) same_more (got.owes view)))
+      (λ view. ap (λ l. l ++ seen_of view more)
+      (seen_append view stray (waits_at made place.stage seen) ∙ (ap (λ l. seen_of view stray ++ l) (there.gave view) ∙ sym (seen_append view stray sent)))
+      ∙ gives_walked made place (prefix ++ now ∷ []) later same view (stray ++ sent) more
+      (ap (λ l. seen_of view ((stray ++ sent) ++ l)) (sym same_more)
+      ∙ (ap (seen_of view) order
+      ∙ (seen_append view (strays place.stage later) (sent ++ got.more)
+      ∙ (ap (λ l. seen_of view (strays place.stage later) ++ l) (got.owes view) ∙ sym (seen_append view (strays place.stage later) (owed_in made place.stage later)))))))
 
   few_takes : (made : Terms) (ahead : ℕ) (more : List Command) (place : Standing) (prefix : List (Timed Event)) → IsFew ahead place.stage → ahead ≤ 1 →
       Takes (http_chain sequence made) (IsAt made) after moment event more place prefix → Takes (http_chain sequence made) (IsInSequence made ahead) after moment event more place prefix
@@ -415,7 +437,7 @@ hears_anywhere state event (made, ahead, place, prefix, stands) looked live goes
     record {
       agrees = more.agrees;
       open_still = more.open_still;
-      advances = may_advance ahead made state.at (requests_take event state.requests) (side_takes event state.side) looked place.stage (sight_with (side_of place.stage) seen event 0) there.sent stands.few
+      advances = may_advance ahead made state.at (requests_take event state.requests) (side_takes (uses_side (phase.Ready looked)) event state.side) looked place.stage (sight_with (side_of place.stage) seen event 0) there.sent stands.few
           (ready_on made seen event 0 place.stage state.at state.requests state.side looked there.sent there.waits there.ready);
     }
 
@@ -434,12 +456,8 @@ is_awaited None reply may = may
 is_awaited (Some ask) reply may = tt
 
 -- the side that is used where something was asked is the one that the sight shows
-parked_seen : (parked : Option Parked) (seen : Sight) → server_parked parked seen ≡ used_in (parked_link parked seen)
-parked_seen None seen = refl
-parked_seen (Some parked) seen = refl
-
-parked_shows : (parked : Option Parked) (seen : Sight) (side : Option Link) → side ≡ parked_link parked seen → server_parked parked seen ≡ used_in side
-parked_shows parked seen side is = parked_seen parked seen ∙ sym (ap used_in is)
+parked_shows : (parked : Option Parked) (seen : Sight) (side : Option Link) → side ≡ parked_link parked seen → server_parked (unspoilt_by (is_silent seen.server seen.shut) parked) seen ≡ used_in side
+parked_shows parked seen side is = sym (parked_used parked seen) ∙ sym (ap used_in is)
 
 link_shows : (server : ℕ) (seen : Sight) (link : Link) → link.server ≡ server → link.closed ≡ seen.shut → server_in server seen ≡ used_in (Some link)
 link_shows server seen link one two = rw (one, two) refl
@@ -448,16 +466,16 @@ final_shows : (message : Request) (server : ℕ) (seen : Sight) (side : Option L
 final_shows message server seen None is = absurd is
 final_shows message server seen (Some link) is = link_shows server seen link is.is_link.server is.is_link.closed
 
-kept_shows : (server : ℕ) (bytes : List ℕ) (seen : Sight) (side : Option Link) → IsOpen (LinkKeeps server bytes seen.shut) side → server_in server seen ≡ used_in side
-kept_shows server bytes seen None is = absurd is
-kept_shows server bytes seen (Some link) is = link_shows server seen link is.server is.closed
+ends_shows : (message : Request) (server : ℕ) (bytes : List ℕ) (seen : Sight) (side : Option Link) → IsOpen (LinkEnds message server bytes seen) side → server_in server seen ≡ used_in side
+ends_shows message server bytes seen None is = absurd is
+ends_shows message server bytes seen (Some link) is = link_shows server seen link is.keeps.server is.keeps.closed
 
-shows_for : (terms : Terms) (stage : Stage) (seen : Sight) (side : Option Link) (found : Asked) → asked_in terms stage seen ≡ Some (bare found) → AskedSide stage seen side → used_of stage seen ≡ used_in side
+shows_for : (terms : Terms) (stage : Stage) (seen : Sight) (side : Option Link) (found : Asked) → asked_in terms stage seen ≡ Some (bare found) → AskedSide stage seen side → used_of (unspoilt stage seen) seen ≡ used_in side
 shows_for terms (idle at) seen side found is_asked is = parked_shows at.parked seen side is
 shows_for terms (busy at flow (request_body given most)) seen side found is_asked is = parked_shows at.parked seen side is
 shows_for terms (busy at flow (connection how)) seen side found is_asked is = parked_shows at.parked seen side is
 shows_for terms (busy at flow (response_head server how)) seen side found is_asked is = final_shows flow.request server seen side is
-shows_for terms (busy at flow (response_body server how most)) seen side found is_asked is = kept_shows server _ seen side is
+shows_for terms (busy at flow (response_body server how most)) seen side found is_asked is = ends_shows flow.request server _ seen side is
 shows_for terms (busy at flow (coming_down server how)) seen side found is_asked is = absurd (let no : None ≡ Some (bare found) = is_asked in cc)
 shows_for terms (busy at flow (upgraded server)) seen side found is_asked is = parked_shows at.parked seen side is
 shows_for terms (busy at flow given_head) seen side found is_asked is = parked_shows at.parked seen side is
@@ -470,6 +488,32 @@ placed terms (idle here) seen found at closed is_asked is = is
 placed terms (busy here flow doing) seen found at closed is_asked is = is
 placed terms (next here) seen found at closed is_asked is = is
 placed terms over seen found at closed is_asked is = absurd (let no : None ≡ Some (bare found) = is_asked in cc)
+
+-- the place without a parked side that is kept no more is that of the stage
+none_there : (at : At) (seen : Sight) (silent : Bool) → at.parked ≡ None → at ≡ (let a : At = record at { parked = unspoilt_by silent at.parked } in a)
+none_there at seen silent is = ap (λ (o : Option Parked). let a : At = record at { parked = o } in a) (is ∙ (none_both silent ∙ ap (unspoilt_by silent) (sym is)))
+  where
+    none_both : (silent : Bool) → None ≡ unspoilt_by silent None
+    none_both true = refl
+    none_both false = refl
+
+open_own : (P : Link → Type 0) (at : At) (seen : Sight) (side : Option Link) → at.parked ≡ None → IsOpen P side → with_open at side ≡ unspoilt_at at seen
+open_own P at seen None none is = absurd is
+open_own P at seen (Some link) none is = none_there at seen (is_silent seen.server seen.shut) none
+
+open_for : (terms : Terms) (stage : Stage) (seen : Sight) (side : Option Link) (found : Asked) → asked_in terms stage seen ≡ Some (bare found) → NoneParked stage → AskedSide stage seen side →
+    with_open (place_of stage) side ≡ place_of (unspoilt stage seen)
+open_for terms (idle at) seen side found is_asked none is = open_as at seen side is
+open_for terms (busy at flow (request_body given most)) seen side found is_asked none is = open_as at seen side is
+open_for terms (busy at flow (connection how)) seen side found is_asked none is = open_as at seen side is
+open_for terms (busy at flow (response_head server how)) seen side found is_asked none is = open_own _ at seen side none is
+open_for terms (busy at flow (response_body server how most)) seen side found is_asked none is = open_own _ at seen side none is
+open_for terms (busy at flow (coming_down server how)) seen side found is_asked none is = open_as at seen side is
+open_for terms (busy at flow (upgraded server)) seen side found is_asked none is = open_as at seen side is
+open_for terms (busy at flow given_head) seen side found is_asked none is = open_as at seen side is
+open_for terms (busy at flow given_body) seen side found is_asked none is = open_as at seen side is
+open_for terms (next at) seen side found is_asked none is = absurd (let no : None ≡ Some (bare found) = is_asked in cc)
+open_for terms over seen side found is_asked none is = absurd (let no : None ≡ Some (bare found) = is_asked in cc)
 
 -- what is given in all is what is owed, and then that
 gives_first : (at : At) (found : Asked) (reply : Reply) (owed : List Command) → turn_gives at found reply owed ≡ owed ++ first_sent at found reply
@@ -498,19 +542,27 @@ module _ (before : Stream) (moment : ℕ) (reply : Reply) (found : Asked) (live 
     place_is : IsPlaced (place_of stage) seen before.at before.client_closed
     place_is = placed made stage seen found before.at before.client_closed asking.2.asks is.place
 
+    abbrev still : Stage
+    still = unspoilt stage seen
+
+    -- a parked side that is kept no more is forgotten
+    open_is : with_open before.at before.side ≡ place_of still
+    open_is = ap (λ a. with_open a before.side) place_is.is_here ∙ open_for made stage seen before.side found asking.2.asks is.apart asking.2.has_side
+
     -- the sight shows what the calls are made with
-    pub shows : Shows before.at found (used_in before.side) before.client_closed seen
+    pub shows : Shows (with_open before.at before.side) found (used_in before.side) before.client_closed seen
     shows = record {
-      is_used = ap (λ a. used_at a found seen) place_is.is_here ∙ (used_asked made stage seen found asking.2.asks ∙ shows_for made stage seen before.side found asking.2.asks asking.2.has_side);
+      is_used = ap (λ a. used_at a found seen) open_is ∙ (used_asked made stage seen found asking.2.asks ∙ shows_for made stage seen before.side found asking.2.asks asking.2.has_side);
       is_closed = sym place_is.client;
     }
 
-    turn_is : asked_turn before.terms before.at found seen (used_in before.side) before.client_closed answer ≡ turn made stage seen answer
+    turn_is : asked_turn before.terms (with_open before.at before.side) found seen before.side (used_in before.side) before.client_closed answer ≡ turn made stage seen answer
     turn_is =
-        ap (λ (t : Terms). asked_turn t before.at found seen (used_in before.side) before.client_closed answer) is.terms
-        ∙ (ap (λ a. asked_turn made a found seen (used_in before.side) before.client_closed answer) place_is.is_here
-        ∙ (ap (λ u. asked_turn made (place_of stage) found seen u before.client_closed answer) (sym (shows_for made stage seen before.side found asking.2.asks asking.2.has_side))
-        ∙ (ap (λ c. asked_turn made (place_of stage) found seen (used_of stage seen) c answer) place_is.client ∙ sym (turn_asked made seen answer stage found asking.2.asks asking.2.how))))
+        ap (λ (t : Terms). asked_turn t (with_open before.at before.side) found seen before.side (used_in before.side) before.client_closed answer) is.terms
+        ∙ (ap (λ a. asked_turn made a found seen before.side (used_in before.side) before.client_closed answer) open_is
+        ∙ (ap (λ u. asked_turn made (place_of still) found seen before.side u before.client_closed answer) (sym (shows_for made stage seen before.side found asking.2.asks asking.2.has_side))
+        ∙ (ap (λ c. asked_turn made (place_of still) found seen before.side (used_of still seen) c answer) place_is.client
+        ∙ sym (turn_asked made before.side seen answer stage found asking.2.asks asking.2.how asking.2.has_side))))
 
     -- what a server is sent that is connected
     abbrev first : List Command
@@ -521,7 +573,7 @@ module _ (before : Stream) (moment : ℕ) (reply : Reply) (found : Asked) (live 
         (given ≡ out ++ ((turn made stage seen answer).owed ++ first)) × Turned made to sees between.at between.requests between.side looked between.client_closed first
     turns_in between looked out given call =
         let leads : stage_of between.at looked ≡ to = call.leads seen shows ∙ ap (λ (t : Turn Stage Command). sequence t.stage) turn_is in
-        let there = turned made stage seen answer before.requests before.side found between.at looked between.client_closed asking.2 leads call.content call.held call.up (call.client ∙ place_is.client) in (
+        let there = turned made stage seen answer before.requests before.side call.middle found between.at looked between.client_closed asking.2 leads call.content call.held call.up (call.client ∙ place_is.client) call.turned_side in (
           call.gives seen shows
               ∙ (ap (λ (t : Turn Stage Command). out ++ turn_gives before.at found reply t.owed) turn_is
               ∙ (ap (λ a. out ++ turn_gives a found reply (turn made stage seen answer).owed) place_is.is_here
@@ -538,22 +590,26 @@ module _ (before : Stream) (moment : ℕ) (reply : Reply) (found : Asked) (live 
         let few_there = few_onward ahead (turn made stage seen answer).stage (turn_few ahead made stage seen answer asking.0 asking.1 few) in
         may_advance ahead made between.at between.requests between.side looked to sees there.sent few_there there.is_ready
 
+    -- beside a flow that uses a side none is parked there, and nothing is owed of one
+    clear : IsClear (λ further. sight_behind made.place stage seen moment further) to
+    clear = turn_clear made seen answer stage is.apart
+
     -- and where it looked then
     record AnsweredIn (after : Stream) (out longer : List Command) : Type 0 where
       more : List Command
       grown : longer ≡ out ++ ((turn made stage seen answer).owed ++ more)
-      owes : (view : View) → seen_of view more ≡ seen_of view (owed_in made to sees)
+      owes : (view : View) → seen_of view more ≡ seen_of view (strays to sees ++ owed_in made to sees)
       is_in : IsIn made after (passed_to made to sees) (sight_past made to sees)
 
     answered_in : (after : Stream) (out longer : List Command) → Answers before after moment reply found out longer → AnsweredIn after out longer
     answered_in after out longer call =
         let (owes, there) = turns_in call.between call.looked out call.given call.turns in
-        let got = advances_to made call.between after moment call.looked call.given longer to sees there.sent (call.turns.terms ∙ is.terms) refl there.is_ready there.place call.advances in
+        let got = advances_to made call.between after moment call.looked call.given longer to sees there.sent clear.apart (call.turns.terms ∙ is.terms) refl there.is_ready there.place call.advances in
         let owed : List Command = (turn made stage seen answer).owed in
         record {
           more = first ++ got.more;
           grown = got.grown ∙ (ap (λ l. l ++ got.more) owes ∙ (append_assoc out (owed ++ first) got.more ∙ ap (λ l. out ++ l) (append_assoc owed first got.more)));
-          owes = λ view. ap (λ l. seen_of view (l ++ got.more)) (sym there.sent_is) ∙ got.owes view;
+          owes = λ view. ap (λ l. seen_of view (l ++ got.more)) (sym there.sent_is) ∙ (got.owes view ∙ ap (λ l. seen_of view (l ++ owed_in made to sees)) (sym clear.strays));
           is_in = got.is_in;
         }
 
@@ -645,28 +701,53 @@ few_asked state found live (made, ahead, place, prefix, stands) =
 
 -- ---- from the fields that the calls change
 
--- whatever the phase was that was taken out
-pub takes_heard : (before between : Stream) (taken : Phase) (event : Event) → Hears (record before { phase = taken }) between event → Hears before between event
-takes_heard before between taken event is = record { terms = is.terms; at = is.at; client = is.client; requests = is.requests; side = is.side }
-
-pub advances_heard : (before between : Stream) (taken : Phase) (event : Event) (looked : Wanted) → MayHear before.at event before.requests before.side looked → Hears (record before { phase = taken }) between event →
-    MayAdvance between.at between.requests between.side looked
-advances_heard before between taken event looked may is =
-    subst (λ a. MayAdvance a between.requests between.side looked) (sym is.at)
-    (subst (λ r. MayAdvance before.at r between.side looked) (sym is.requests)
-    (subst (λ s. MayAdvance before.at (requests_take event before.requests) s looked) (sym is.side) may.advances))
-
 pub turn_taken : (before between : Stream) (taken : Phase) (moment : ℕ) (reply : Reply) (found : Asked) (looked : Wanted) (out longer : List Command) →
     TurnsTo (record before { phase = taken }) between moment reply found looked out longer → TurnsTo before between moment reply found looked out longer
-turn_taken before between taken moment reply found looked out longer is =
-    record { terms = is.terms; client = is.client; gives = is.gives; leads = is.leads; content = is.content; held = is.held; up = is.up; requests = is.requests; side = is.side }
+turn_taken before between taken moment reply found looked out longer is = record {
+  terms = is.terms;
+  client = is.client;
+  gives = is.gives;
+  leads = is.leads;
+  content = is.content;
+  held = is.held;
+  up = is.up;
+  requests = is.requests;
+  middle = is.middle;
+  turned_side = is.turned_side;
+  side = is.side;
+}
 
 pub taken_answer : (before : Stream) (taken : Phase) (between after : Stream) (moment : ℕ) (reply : Reply) (found : Asked) (looked : Wanted) (out given longer : List Command) →
     TurnsTo (record before { phase = taken }) between moment reply found looked out given → Advances between after moment looked given longer → Answers before after moment reply found out longer
 taken_answer before taken between after moment reply found looked out given longer call once =
     record { between = between; looked = looked; given = given; turns = turn_taken before between taken moment reply found looked out given call; advances = once }
 
-pub heard_event : (before between after : Stream) (taken : Phase) (moment : ℕ) (event : Event) (looked : Wanted) (out longer : List Command) → before.phase ≡ phase.Ready looked → is_last before.phase ≡ false →
-    Hears (record before { phase = taken }) between event → Advances between after moment looked out longer → TakesEvent before after moment event out longer
-heard_event before between after taken moment event looked out longer live goes heard once =
-    hears looked between live (ap is_last (sym live) ∙ goes) (takes_heard before between taken event heard) once
+-- what it looks for, where it awaits no answer
+looks_in : (found : Phase) → awaited_in found ≡ None → (looked : Wanted) × (found ≡ phase.Ready looked)
+looks_in (phase.Ready looked) is = (looked, refl)
+looks_in (phase.Asked here) is = absurd (let no : Some (asked_of here) ≡ None = is in cc)
+
+-- its readers may hear an event there
+pub may_hear_now : (state : Stream) (event : Event) → Somewhere state → awaits state ≡ None → is_last state.phase ≡ false → MayHearMore state.requests state.side
+may_hear_now state event stands free goes =
+    let (looked, live) = looks_in state.phase free in
+    let may = hears_anywhere state event stands looked live (ap is_last (sym live) ∙ goes) in
+    record { open_still = may.open_still; agrees = may.agrees }
+
+-- and then it may go on, where what was looked for is taken out
+pub heard_may : (before between : Stream) (event : Event) (looked : Wanted) → Somewhere before → before.phase ≡ phase.Ready looked → is_last before.phase ≡ false → Hears (uses_side before.phase) before between event →
+    MayAdvance between.at between.requests between.side looked
+heard_may before between event looked stands live goes is =
+    let may = hears_anywhere before event stands looked live (ap is_last (sym live) ∙ goes) in
+    subst (λ a. MayAdvance a between.requests between.side looked) (sym is.at)
+    (subst (λ r. MayAdvance before.at r between.side looked) (sym is.requests)
+    (subst (λ s. MayAdvance before.at (requests_take event before.requests) s looked) (sym (is.side ∙ ap (λ p. side_takes (uses_side p) event before.side) live)) may.advances))
+
+pub heard_event : (before between after : Stream) (taken : Phase) (moment : ℕ) (event : Event) (looked : Wanted) (out given longer : List Command) → before.phase ≡ phase.Ready looked → is_last before.phase ≡ false →
+    Hears (uses_side before.phase) before between event → given ≡ out ++ shut_if (stray_in (uses_side before.phase) event before.side) → Advances (record between { phase = taken }) after moment looked given longer →
+    TakesEvent before after moment event out longer
+heard_event before between after taken moment event looked out given longer live goes heard gives once =
+    let uses : uses_side before.phase ≡ uses_side (phase.Ready looked) = ap uses_side live in
+    hears looked (record between { phase = taken }) given live (ap is_last (sym live) ∙ goes)
+    (record { terms = heard.terms; at = heard.at; client = heard.client; requests = heard.requests; side = heard.side ∙ ap (λ u. side_takes u event before.side) uses })
+    (gives ∙ ap (λ u. out ++ shut_if (stray_in u event before.side)) uses) once

@@ -25,6 +25,7 @@ use Rattle.px_exchange.proofs.BodyLemmas.{come}
 use Rattle.px_parts.specs.Streamed.{heard_in, response_says, response_streams, streamed_by, streams_behind}
 use Rattle.px_parts.specs.Texts.{behind_text, end_text, final_bytes, final_so_far, marks_text, response_behind_text, response_so_far}
 use Rattle.px_chain.specs.Coming.{streams_by as streams_of}
+use Rattle.px_chain.specs.Sights.{left_by, left_by_answers}
 use Rattle.px_stream.specs.Comings.{streams_at, streams_with}
 use Rattle.px_stream.specs.Passes.{streams_by}
 use Rattle.px_stream.specs.Stands.{Passes}
@@ -96,6 +97,11 @@ module _ (asked_head shut : Bool) (bytes fed : List ℕ) (sent : List ReadRespon
 
   bytes_are : final_bytes asked_head shut bytes ≡ fed
   bytes_are = ap (λ n. drop n bytes) used_is ∙ sym passes.behind
+
+  -- what stands behind it, where it is whole
+  pub left_is : left_by_answers (answer_list asked_head shut bytes) bytes ≡ left_by (item_behind head (body_of all) finish) fed
+  left_is =
+      ap (λ i. left_by i (final_bytes asked_head shut bytes)) item_is ∙ ap (left_by (item_behind head (body_of all) finish)) bytes_are
 
   -- its text, where it can have a body
   pub text_is : (sent_as : Response) → has_no_body sent_as.status asked_head ≡ false →

@@ -126,6 +126,7 @@ module _ (flow : Flow) (server : ℕ) (seen : Sight) (sends : Response) (text : 
       is_text = reads.is_text;
       streamed = reads.streamed;
       final = reads.final;
+      lasts = reads.lasts;
       is_link = subst (λ l. IsLink flow.request server seen reads.sent (answers reads.head ∷ l) (record link { responses = responses })) (append-nil reads.marks) is_link;
     },
     still_quiet (response asked_head) (answers reads.head ∷ reads.marks) reads.is_link.fed seen.shut link.responses responses reads.is_link.reads next further,

@@ -173,6 +173,7 @@ module _ (terms : Terms) (at : At) (flow : Flow) (server : ℕ) (sent : SentOn) 
     is_content = is.is_content;
     holds = still_holds held moment most is.head is.marks is.holds;
     final = is.final;
+    lasts = is.lasts;
     is_link = is.is_link;
   }
 
@@ -206,6 +207,7 @@ module _ (terms : Terms) (at : At) (flow : Flow) (server : ℕ) (sent : SentOn) 
     is_text = is.is_text;
     streamed = record { response = is.streamed.response; is_given = is.streamed.is_given; is_sent = is.streamed.is_sent; has_body = is.streamed.has_body };
     final = is.final;
+    lasts = is.lasts;
     is_link = is.is_link;
   }
 

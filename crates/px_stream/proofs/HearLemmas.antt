@@ -1,7 +1,8 @@
 -- One event more, where no answer is awaited: the readers have heard it, and the flow stands where it stood.
-use Rattle.std.proofs.Common.{◌≡◌, ℕ, ◌==◌, Bool, true, false, List, [], ◌∷◌, ◌++◌, Option, Some, None, refl, ap, sym, ◌∙◌, subst, arith, append_assoc, length-append}
+use Rattle.std.proofs.Common.{◌≡◌, ℕ, ◌==◌, Bool, true, false, List, [], ◌∷◌, ◌++◌, Option, Some, None, refl, ap, sym, ◌∙◌, subst, arith, append_assoc, eqb-true, length-append}
 use Rattle.std.specs.Prelude.{◌+◌, ◌||◌, if◌then◌else◌}
 use Rattle.std.proofs.lemmas.List.{append-nil, drop-append-le}
+use Rattle.px_event.specs.declared.command.Command.TheVariants as commands
 use Rattle.px_event.specs.declared.event.Event.{Event}
 use Rattle.px_event.specs.declared.event.Event.TheVariants as events
 use Rattle.px_event.specs.declared.side.Side.TheVariants.{Client, Server}
@@ -13,19 +14,24 @@ use Rattle.px_read.specs.Reader.{Message, request, response, State, Reads}
 use Rattle.px_read.specs.declared.head.ResponseHead.{ResponseHead}
 use Rattle.px_message.specs.declared.flow.Flow.{Flow}
 use Rattle.px_message.specs.declared.request.Request.{Request}
+use Rattle.px_exchange.specs.Endings.{read_persists}
 use Rattle.px_exchange.specs.Finds.{or_leaves}
 use Rattle.px_exchange.specs.Requests.{is_head}
 use Rattle.px_exchange.specs.declared.terms.Terms.{Terms}
 use Rattle.px_chain.specs.Chain.{look}
+use Rattle.px_chain.specs.Keeping.{is_silent, shut_by_byte, shut_stray, strays}
 use Rattle.px_chain.specs.Sights.{Sight, sight_with}
 use Rattle.px_chain.specs.Stages.{At, Parked, Stage, busy, coming_down, connection, given_body, given_head, idle, next, over, request_body, response_body, response_head, side_in, side_of, side_parked, upgraded}
 use Rattle.px_stream.specs.declared.going.Going.{Going}
 use Rattle.px_stream.specs.declared.going.Sending.{Sending}
 use Rattle.px_stream.specs.declared.going.Sending.TheVariants as sending
 use Rattle.px_stream.specs.declared.link.Link.{Link}
+use Rattle.px_stream.specs.declared.phase.Phase.TheVariants as phase
 use Rattle.px_stream.specs.declared.phase.Wanted.{Wanted}
-use Rattle.px_stream.specs.Heard.{feeds, link_hears, link_closes, requests_take, side_takes, closes_client}
-use Rattle.px_stream.specs.Stands.{IsBehind, Passes, ReadsLink, IsLink, IsOpen, GoesOnUp, Keeps, HasRequest, HasSide, IsReady, IsPlaced, HasPlace, ReadsDown, ReadsGoing, ReadsReturn, SentOn, WaitsUp, going_in, held_in, sent_in, content_in, up_in, parked_link, unread_link}
+use Rattle.px_stream.specs.declared.phase.Wanted.TheVariants as ready
+use Rattle.px_stream.specs.Heard.{closes_client, feeds, link_closes, link_hears, parked_stray, parked_takes, requests_take, shut_if, side_takes, stray_in, stray_of, unless_of, used_takes}
+use Rattle.px_stream.specs.Stands.{IsBehind, Passes, ReadsLink, IsLink, IsOpen, GoesOnUp, Keeps, HasRequest, HasSide, IsReady, IsPlaced, HasPlace, ReadsDown, ReadsGoing, ReadsReturn, SentOn, WaitsUp, going_in, up_in, parked_link, silent_link, stage_of}
+use Rattle.px_stream.specs.Tells.{uses_side}
 use Rattle.px_stream.proofs.ReadLemmas.{fed_on, shut_on, shuts}
 
 -- what an open side hears
@@ -34,21 +40,13 @@ link_takes (events.Piece (Server server) bytes) link = link_hears server bytes l
 link_takes (events.Closed (Server server)) link = link_closes server link
 link_takes _ link = link
 
-pub side_took : (event : Event) (link : Link) → side_takes event (Some link) ≡ Some (link_takes event link)
+pub side_took : (event : Event) (link : Link) → used_takes event (Some link) ≡ Some (link_takes event link)
 side_took events.Begun link = refl
 side_took (events.Piece Client bytes) link = refl
 side_took (events.Piece (Server server) bytes) link = refl
 side_took (events.Closed Client) link = refl
 side_took (events.Closed (Server server)) link = refl
 side_took (events.Answered ask reply) link = refl
-
-none_took : (event : Event) → side_takes event None ≡ None
-none_took events.Begun = refl
-none_took (events.Piece Client bytes) = refl
-none_took (events.Piece (Server server) bytes) = refl
-none_took (events.Closed Client) = refl
-none_took (events.Closed (Server server)) = refl
-none_took (events.Answered ask reply) = refl
 
 -- ---- the server's side
 
@@ -151,48 +149,119 @@ link_on : (message : Request) (server : ℕ) (seen : Sight) (event : Event) (now
     IsLink message server seen sent told link → IsLink message server (sight_with (Some server) seen event now) sent told (link_takes event link)
 link_on message server seen event now sent told link is = link_took (is_head message.method) server sent told seen.server seen.shut link event is
 
--- ---- the parked side
+-- what is heard of it says nothing of whether it persists
+hears_persists : (server : ℕ) (bytes : List ℕ) (link : Link) (mine was : Bool) →
+    (if mine then (if was then link else record link { responses = feeds bytes link.responses }) else link).persists ≡ link.persists
+hears_persists server bytes link true true = refl
+hears_persists server bytes link true false = refl
+hears_persists server bytes link false was = refl
+
+closes_persists : (link : Link) (mine : Bool) → (if mine then record link { responses = shuts link.responses; closed = true } else link).persists ≡ link.persists
+closes_persists link true = refl
+closes_persists link false = refl
+
+took_persists : (event : Event) (link : Link) → (link_takes event link).persists ≡ link.persists
+took_persists events.Begun link = refl
+took_persists (events.Piece Client bytes) link = refl
+took_persists (events.Piece (Server server) bytes) link = hears_persists server bytes link (server == link.server) link.closed
+took_persists (events.Closed Client) link = refl
+took_persists (events.Closed (Server server)) link = closes_persists link (server == link.server)
+took_persists (events.Answered ask reply) link = refl
+
+lasts_on : (message : Request) (head : ResponseHead) (event : Event) (link : Link) → link.persists ≡ read_persists message head → (link_takes event link).persists ≡ read_persists message head
+lasts_on message head event link is = took_persists event link ∙ is
+
+-- ---- the parked side: at its first byte, or at its close, it is kept no more
+
+none_took : (event : Event) → parked_takes event None ≡ None
+none_took events.Begun = refl
+none_took (events.Piece Client bytes) = refl
+none_took (events.Piece (Server server) []) = refl
+none_took (events.Piece (Server server) (byte ∷ more)) = refl
+none_took (events.Closed Client) = refl
+none_took (events.Closed (Server server)) = refl
+none_took (events.Answered ask reply) = refl
+
+none_strays : (event : Event) → parked_stray event None ≡ None
+none_strays events.Begun = refl
+none_strays (events.Piece Client bytes) = refl
+none_strays (events.Piece (Server server) []) = refl
+none_strays (events.Piece (Server server) (byte ∷ more)) = refl
+none_strays (events.Closed side) = refl
+none_strays (events.Answered ask reply) = refl
 
 module _ (number : ℕ) where
-  abbrev waits : List ℕ → Bool → Link
-  waits bytes shut = unread_link number false bytes shut
+  -- one of which nothing was heard, by whether the event is its own
+  empty_took : (mine : Bool) → silent_link true number ≡ silent_link (is_silent (let none : List ℕ = [] in if mine then none else none) false) number
+  empty_took true = refl
+  empty_took false = refl
 
-  waits_same : (bytes : List ℕ) (was : Bool) → waits bytes was ≡ waits (if was then bytes else (bytes ++ [])) (was || false)
-  waits_same bytes true = refl
-  waits_same bytes false = ap (λ l. waits l false) (sym (append-nil bytes))
+  byte_took : (byte : ℕ) (more : List ℕ) (mine : Bool) → unless_of mine (silent_link true number) ≡ silent_link (is_silent (if mine then byte ∷ more else []) false) number
+  byte_took byte more true = refl
+  byte_took byte more false = refl
 
-  waits_hears : (bytes more : List ℕ) (was mine : Bool) →
-      (if mine then (if was then waits bytes was else record (waits bytes was) { responses = feeds more (waits bytes was).responses }) else waits bytes was)
-      ≡ waits (if was then bytes else (bytes ++ (if mine then more else []))) (was || false)
-  waits_hears bytes more was false = waits_same bytes was
-  waits_hears bytes more true true = refl
-  waits_hears bytes more false true = refl
+  close_took : (mine : Bool) → unless_of mine (silent_link true number) ≡ silent_link (is_silent [] mine) number
+  close_took true = refl
+  close_took false = refl
 
-  waits_closes : (bytes : List ℕ) (was mine : Bool) →
-      (if mine then record (waits bytes was) { responses = shuts (waits bytes was).responses; closed = true } else waits bytes was)
-      ≡ waits (if was then bytes else (bytes ++ [])) (was || mine)
-  waits_closes bytes was false = waits_same bytes was
-  waits_closes bytes true true = refl
-  waits_closes bytes false true = ap (λ l. waits l true) (sym (append-nil bytes))
+  silent_took : (event : Event) → parked_takes event (silent_link true number) ≡ silent_link (is_silent (piece_of (Server number) event) (closes (Server number) event)) number
+  silent_took events.Begun = refl
+  silent_took (events.Piece Client more) = refl
+  silent_took (events.Piece (Server server) []) = empty_took (server == number)
+  silent_took (events.Piece (Server server) (byte ∷ more)) = byte_took byte more (server == number)
+  silent_took (events.Closed Client) = refl
+  silent_took (events.Closed (Server server)) = close_took (server == number)
+  silent_took (events.Answered ask reply) = refl
 
-  waits_took : (bytes : List ℕ) (was : Bool) (event : Event) →
-      link_takes event (waits bytes was) ≡ waits (if was then bytes else (bytes ++ piece_of (Server number) event)) (was || closes (Server number) event)
-  waits_took bytes was events.Begun = waits_same bytes was
-  waits_took bytes was (events.Piece Client more) = waits_same bytes was
-  waits_took bytes was (events.Piece (Server server) more) = waits_hears bytes more was (server == number)
-  waits_took bytes was (events.Closed Client) = waits_same bytes was
-  waits_took bytes was (events.Closed (Server server)) = waits_closes bytes was (server == number)
-  waits_took bytes was (events.Answered ask reply) = waits_same bytes was
+  silent_heard : (bytes : List ℕ) (was : Bool) (event : Event) → parked_takes event (silent_link (is_silent bytes was) number)
+      ≡ silent_link (is_silent (if was then bytes else (bytes ++ piece_of (Server number) event)) (was || closes (Server number) event)) number
+  silent_heard [] true event = none_took event
+  silent_heard [] false event = silent_took event
+  silent_heard (byte ∷ more) true event = none_took event
+  silent_heard (byte ∷ more) false event = none_took event
 
-parked_by : (parked : Option Parked) (seen : Sight) (event : Event) (now : ℕ) → side_takes event (parked_link parked seen) ≡ parked_link parked (sight_with (side_parked parked) seen event now)
+  -- the close of one of which a byte came, by whether it is this one
+  empty_strays : (mine : Bool) → [] ≡ shut_by_byte number (let none : List ℕ = [] in if mine then none else none)
+  empty_strays true = refl
+  empty_strays false = refl
+
+  byte_strays : (server byte : ℕ) (more : List ℕ) (mine : Bool) → (server == number) ≡ mine → shut_if (stray_of mine server) ≡ shut_by_byte number (if mine then byte ∷ more else [])
+  byte_strays server byte more true is = ap (λ n. commands.Close (Server n) ∷ []) (eqb-true server number is)
+  byte_strays server byte more false is = refl
+
+  silent_strays : (event : Event) → shut_if (parked_stray event (silent_link true number)) ≡ shut_by_byte number (piece_of (Server number) event)
+  silent_strays events.Begun = refl
+  silent_strays (events.Piece Client more) = refl
+  silent_strays (events.Piece (Server server) []) = empty_strays (server == number)
+  silent_strays (events.Piece (Server server) (byte ∷ more)) = byte_strays server byte more (server == number) refl
+  silent_strays (events.Closed side) = refl
+  silent_strays (events.Answered ask reply) = refl
+
+  strays_heard : (bytes : List ℕ) (was : Bool) (event : Event) → shut_by_byte number bytes ++ shut_if (parked_stray event (silent_link (is_silent bytes was) number))
+      ≡ shut_by_byte number (if was then bytes else (bytes ++ piece_of (Server number) event))
+  strays_heard [] true event = ap shut_if (none_strays event)
+  strays_heard [] false event = silent_strays event
+  strays_heard (byte ∷ more) true event = ap (λ o. shut_by_byte number (byte ∷ more) ++ shut_if o) (none_strays event)
+  strays_heard (byte ∷ more) false event = ap (λ o. shut_by_byte number (byte ∷ more) ++ shut_if o) (none_strays event)
+
+parked_by : (parked : Option Parked) (seen : Sight) (event : Event) (now : ℕ) → parked_takes event (parked_link parked seen) ≡ parked_link parked (sight_with (side_parked parked) seen event now)
 parked_by None seen event now = none_took event
-parked_by (Some parked) seen event now =
-    side_took event (unread_link parked.server false seen.server seen.shut) ∙ ap Some (waits_took parked.server seen.server seen.shut event)
+parked_by (Some parked) seen event now = silent_heard parked.server seen.server seen.shut event
 
 -- It has heard the event too.
 pub parked_took : (parked : Option Parked) (seen : Sight) (event : Event) (now : ℕ) (side : Option Link) → side ≡ parked_link parked seen →
-    side_takes event side ≡ parked_link parked (sight_with (side_parked parked) seen event now)
-parked_took parked seen event now side is = ap (side_takes event) is ∙ parked_by parked seen event now
+    parked_takes event side ≡ parked_link parked (sight_with (side_parked parked) seen event now)
+parked_took parked seen event now side is = ap (parked_takes event) is ∙ parked_by parked seen event now
+
+parked_strays_by : (parked : Option Parked) (seen : Sight) (event : Event) (now : ℕ) →
+    shut_stray parked seen ++ shut_if (parked_stray event (parked_link parked seen)) ≡ shut_stray parked (sight_with (side_parked parked) seen event now)
+parked_strays_by None seen event now = ap shut_if (none_strays event)
+parked_strays_by (Some parked) seen event now = strays_heard parked.server seen.server seen.shut event
+
+-- And it is closed at its first byte.
+pub parked_strays : (parked : Option Parked) (seen : Sight) (event : Event) (now : ℕ) (side : Option Link) → side ≡ parked_link parked seen →
+    shut_stray parked seen ++ shut_if (parked_stray event side) ≡ shut_stray parked (sight_with (side_parked parked) seen event now)
+parked_strays parked seen event now side is = ap (λ s. shut_stray parked seen ++ shut_if (parked_stray event s)) is ∙ parked_strays_by parked seen event now
 
 -- ---- the client's side
 
@@ -235,7 +304,7 @@ keeps_took bytes state event is = record { rest = rest_took state event ∙ ap (
 -- ---- all of it
 
 -- an open side stays one
-open_took : (event : Event) (P Q : Link → Type 0) → ((link : Link) → P link → Q (link_takes event link)) → (side : Option Link) → IsOpen P side → IsOpen Q (side_takes event side)
+open_took : (event : Event) (P Q : Link → Type 0) → ((link : Link) → P link → Q (link_takes event link)) → (side : Option Link) → IsOpen P side → IsOpen Q (used_takes event side)
 open_took event P Q on None is = absurd is
 open_took event P Q on (Some link) is = subst (IsOpen Q) (sym (side_took event link)) (on link is)
 
@@ -277,15 +346,18 @@ module _ (made : Terms) (seen : Sight) (event : Event) (now : ℕ) (requests : S
   request_on (next at) is = absurd is
   request_on over is = tt
 
-  side_on : (stage : Stage) → look made stage seen ≡ NotYet → HasSide stage seen sent looked side → HasSide stage (sight_with (side_of stage) seen event now) sent looked (side_takes event side)
-  side_on (idle at) waits is = parked_took at.parked seen event now side is
-  side_on (busy at flow (request_body given most)) waits is = parked_took at.parked seen event now side is
-  side_on (busy at flow (connection how)) waits is = parked_took at.parked seen event now side is
-  side_on (busy at flow (response_head server how)) waits is =
+  abbrev SideOn : At → Wanted → Type 0
+  SideOn at wanted = HasSide (stage_of at wanted) (sight_with (side_of (stage_of at wanted)) seen event now) sent wanted (side_takes (uses_side (phase.Ready wanted)) event side)
+
+  side_on : (at : At) (wanted : Wanted) → look made (stage_of at wanted) seen ≡ NotYet → HasSide (stage_of at wanted) seen sent wanted side → SideOn at wanted
+  side_on at ready.Idle waits is = parked_took at.parked seen event now side is
+  side_on at (ready.RequestBody flow given most body held) waits is = parked_took at.parked seen event now side is
+  side_on at (ready.Connection flow up) waits is = parked_took at.parked seen event now side is
+  side_on at (ready.ResponseHead flow server up) waits is =
       open_took event (IsLink flow.request server seen sent.interim []) (IsLink flow.request server (sight_with (Some server) seen event now) sent.interim [])
       (λ link has. link_on flow.request server seen event now sent.interim [] link has) side is
-  side_on (busy at flow (response_body server how most)) waits is =
-      open_took event (ReadsReturn flow server most seen (content_in looked) (held_in looked)) (ReadsReturn flow server most (sight_with (Some server) seen event now) (content_in looked) (held_in looked))
+  side_on at (ready.ResponseBody flow server up most body held) waits is =
+      open_took event (ReadsReturn flow server most seen body held) (ReadsReturn flow server most (sight_with (Some server) seen event now) body held)
       (λ link has. record {
         sent = has.sent;
         head = has.head;
@@ -293,10 +365,11 @@ module _ (made : Terms) (seen : Sight) (event : Event) (now : ℕ) (requests : S
         is_content = has.is_content;
         holds = has.holds;
         final = has.final;
+        lasts = lasts_on flow.request has.head event link has.lasts;
         is_link = link_on flow.request server seen event now has.sent (answers has.head ∷ has.marks) link has.is_link;
       }) side is
-  side_on (busy at flow (coming_down server how)) waits is =
-      open_took event (ReadsDown flow server seen (sent_in looked) sent.text) (ReadsDown flow server (sight_with (Some server) seen event now) (sent_in looked) sent.text)
+  side_on at (ready.ComingDown flow server up goes) waits is =
+      open_took event (ReadsDown flow server seen (Some goes) sent.text) (ReadsDown flow server (sight_with (Some server) seen event now) (Some goes) sent.text)
       (λ link has. record {
         sent = has.sent;
         head = has.head;
@@ -304,23 +377,52 @@ module _ (made : Terms) (seen : Sight) (event : Event) (now : ℕ) (requests : S
         is_text = has.is_text;
         streamed = has.streamed;
         final = has.final;
+        lasts = lasts_on flow.request has.head event link has.lasts;
         is_link = link_on flow.request server seen event now has.sent (answers has.head ∷ has.marks) link has.is_link;
       }) side is
-  side_on (busy at flow (upgraded server)) waits is = absurd (ended seen.closed waits)
-  side_on (busy at flow given_head) waits is = parked_took at.parked seen event now side is
-  side_on (busy at flow given_body) waits is = parked_took at.parked seen event now side is
-  side_on (next at) waits is = tt
-  side_on over waits is = tt
+  side_on at (ready.Upgraded flow server) waits is = absurd (ended seen.closed waits)
+  side_on at (ready.GivenHead flow) waits is = parked_took at.parked seen event now side is
+  side_on at (ready.GivenBody flow) waits is = parked_took at.parked seen event now side is
+  side_on at (ready.Connects address) waits is = tt
+  side_on at ready.Over waits is = tt
+
+  abbrev StraysOn : At → Wanted → Type 0
+  StraysOn at wanted =
+      let stage : Stage = stage_of at wanted in
+      strays stage seen ++ shut_if (stray_in (uses_side (phase.Ready wanted)) event side) ≡ strays stage (sight_with (side_of stage) seen event now)
+
+  strays_by : (at : At) (wanted : Wanted) → look made (stage_of at wanted) seen ≡ NotYet → HasSide (stage_of at wanted) seen sent wanted side → StraysOn at wanted
+  strays_by at ready.Idle waits is = parked_strays at.parked seen event now side is
+  strays_by at (ready.RequestBody flow given most body held) waits is = parked_strays at.parked seen event now side is
+  strays_by at (ready.Connection flow up) waits is = parked_strays at.parked seen event now side is
+  strays_by at (ready.ResponseHead flow server up) waits is = refl
+  strays_by at (ready.ResponseBody flow server up most body held) waits is = refl
+  strays_by at (ready.ComingDown flow server up goes) waits is = refl
+  strays_by at (ready.Upgraded flow server) waits is = refl
+  strays_by at (ready.GivenHead flow) waits is = parked_strays at.parked seen event now side is
+  strays_by at (ready.GivenBody flow) waits is = parked_strays at.parked seen event now side is
+  strays_by at (ready.Connects address) waits is = absurd (ended seen.closed waits)
+  strays_by at ready.Over waits is = absurd (ended seen.closed waits)
 
 -- The flow stands where it stood, if nothing was found, and its readers have heard the event.
 pub ready_on : (made : Terms) (seen : Sight) (event : Event) (now : ℕ) (stage : Stage) (at : At) (requests : State) (side : Option Link) (looked : Wanted) (sent : SentOn) →
     look made stage seen ≡ NotYet → IsReady made at requests side looked stage seen sent →
-    IsReady made at (requests_take event requests) (side_takes event side) looked stage (sight_with (side_of stage) seen event now) sent
+    IsReady made at (requests_take event requests) (side_takes (uses_side (phase.Ready looked)) event side) looked stage (sight_with (side_of stage) seen event now) sent
 ready_on made seen event now stage at requests side looked sent waits is = record {
   is_stage = is.is_stage;
   request = request_on made seen event now requests side sent looked stage is.request;
-  has_side = side_on made seen event now requests side sent looked stage waits is.has_side;
+  has_side =
+      subst (λ s. HasSide s (sight_with (side_of s) seen event now) sent looked (side_takes (uses_side (phase.Ready looked)) event side)) is.is_stage
+      (side_on made seen event now requests side sent looked at looked (ap (λ s. look made s seen) is.is_stage ∙ waits) (subst (λ s. HasSide s seen sent looked side) (sym is.is_stage) is.has_side));
 }
+
+-- The close of a parked side is owed at its first byte.
+pub strays_on : (made : Terms) (seen : Sight) (event : Event) (now : ℕ) (stage : Stage) (at : At) (requests : State) (side : Option Link) (looked : Wanted) (sent : SentOn) →
+    look made stage seen ≡ NotYet → IsReady made at requests side looked stage seen sent →
+    strays stage seen ++ shut_if (stray_in (uses_side (phase.Ready looked)) event side) ≡ strays stage (sight_with (side_of stage) seen event now)
+strays_on made seen event now stage at requests side looked sent waits is =
+    subst (λ s. strays s seen ++ shut_if (stray_in (uses_side (phase.Ready looked)) event side) ≡ strays s (sight_with (side_of s) seen event now)) is.is_stage
+    (strays_by made seen event now requests side sent looked at looked (ap (λ s. look made s seen) is.is_stage ∙ waits) (subst (λ s. HasSide s seen sent looked side) (sym is.is_stage) is.has_side))
 
 closes_by_event : (event : Event) (was : Bool) → closes_client event was ≡ (was || closes Client event)
 closes_by_event events.Begun true = refl

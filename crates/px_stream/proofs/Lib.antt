@@ -6,6 +6,7 @@ pub mod BegunLemmas
 pub mod BoundLemmas
 pub mod CallLemmas
 pub mod CameLemmas
+pub mod ClearLemmas
 pub mod ComingLemmas
 pub mod DialLemmas
 pub mod DownLemmas
@@ -17,6 +18,8 @@ pub mod KeptLemmas
 pub mod LookLemmas
 pub mod LookingLemmas
 pub mod MoveLemmas
+pub mod NotedLemmas
+pub mod ParkedLemmas
 pub mod PassLemmas
 pub mod PassUpLemmas
 pub mod PassesLemmas
@@ -30,9 +33,9 @@ pub mod RestLemmas
 pub mod RisingLemmas
 pub mod SettledLemmas
 pub mod ShownLemmas
-mod SilentLemmas
 pub mod StateLaws
 pub mod StepLemmas
+pub mod StrayLemmas
 pub mod TurnAskedLemmas
 pub mod TurnLemmas
 pub mod UnreadLemmas

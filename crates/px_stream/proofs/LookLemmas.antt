@@ -29,13 +29,14 @@ use Rattle.px_exchange.specs.declared.terms.Terms.{Terms}
 use Rattle.px_exchange.specs.Bodies.{HasRead, content_of}
 use Rattle.px_write.specs.Error.{fault_message}
 use Rattle.px_parts.specs.Texts.{marks_text}
-use Rattle.px_exchange.specs.Endings.{closed_message, ends_by_fault, ends_early, refuses, shut_server, without_response}
+use Rattle.px_exchange.specs.Endings.{closed_message, ends_by_fault, ends_early, read_persists, refuses, shut_server, without_response}
 use Rattle.px_exchange.specs.Finds.{is_relayed, look_answer, look_answer_head, look_head, look_judged, look_returned, or_leaves}
 use Rattle.px_exchange.specs.Flows.{ask_of, response_of, with_answer, with_body, with_returned}
 use Rattle.px_exchange.specs.Places.{dialled_for}
 use Rattle.px_exchange.specs.Requests.{expects, flow_of, is_head, is_http11, judged}
 use Rattle.px_exchange.specs.Texts.{interim_commands, sends_on}
-use Rattle.px_chain.specs.Chain.{Connect, behind, come_down, connect_in, end_by, end_up, given_at, going_at, gone_by, leaving, look, look_coming, pass, pass_came, pass_given, pass_going, pass_kept, past_came, past_gone, past_kept, sight_come, sight_ended, sight_past, so_far}
+use Rattle.px_chain.specs.Chain.{Connect, behind, come_down, connect_in, end_by, end_up, given_at, going_at, gone_by, leaving, look, look_coming, pass, pass_came, pass_given, pass_going, pass_kept, past_came, past_gone, past_kept, sight_come, sight_ended, sight_past, waits_at}
+use Rattle.px_chain.specs.Keeping.{unspoilt_at}
 use Rattle.px_chain.specs.Going.{sends_up, whole_in}
 use Rattle.px_chain.specs.Sights.{Sight, answers_in, left_by, request_in, server_in, server_left, server_parked}
 use Rattle.px_chain.specs.Stages.{At, Doing, Parked, Stage, busy, coming_down, connection, given_body, given_head, idle, over, request_body, response_body, response_head, upgraded}
@@ -58,17 +59,14 @@ use Rattle.px_stream.specs.GoingUp.{HasNoMoreUp, IsGoneFor, IsNotWhole, NoMoreUp
 use Rattle.px_stream.specs.Passes.{HasNoMore, HasNoMoreDown, IsPassed}
 use Rattle.px_stream.specs.Looks.{AnswerFound, ComingFound, HeadRead, LookedAt, LookFound, ReturnFound, answer_gives, answer_phase, body_gives, body_phase, coming_gives, coming_phase, head_phase, is_over, judged_phase, relayed_phase, relays, returned_gives, returned_phase, unless_bad, unless_broken, unless_left, unless_over, where_left}
 use Rattle.px_stream.specs.Responses.{AnswerCome}
-use Rattle.px_stream.specs.Stands.{GoesOnUp, IsBehind, IsQuiet, HasPlace, HasRequest, HasSide, Holds, HoldsUp, ReadsBody, ReadsDown, WaitsUp, SentOn, none_sent, IsLastAt, IsLink, IsOpen, IsReady, Keeps, LinkKeeps, PhaseAt, ReadsFinal, ReadsReturn, answer_asked, body_asked, head_asked, judged_asked, parked_link, returned_asked, sent_on, stage_of, used_in}
+use Rattle.px_stream.specs.Stands.{GoesOnUp, IsBehind, IsQuiet, HasPlace, HasRequest, HasSide, Holds, HoldsUp, ReadsBody, ReadsDown, WaitsUp, SentOn, none_sent, IsLastAt, IsLink, IsOpen, IsReady, Keeps, LinkEnds, LinkKeeps, PhaseAt, ReadsFinal, ReadsReturn, answer_asked, body_asked, head_asked, judged_asked, parked_link, returned_asked, sent_on, stage_of, used_in, whole_persists}
 use Rattle.px_stream.proofs.DownLemmas.{DownShown, down_shown, sends_all}
 use Rattle.px_stream.proofs.HeadLemmas.{connect_there, connect_whole, gives_at, gives_missing, look_at_head, no_connect, phase_at}
+use Rattle.px_stream.proofs.NotedLemmas.{Lasts, come_noted, lasts_noted}
+use Rattle.px_stream.proofs.ParkedLemmas.{parked_used}
 use Rattle.px_stream.proofs.QuietLemmas.{missing_quiet}
 use Rattle.px_stream.proofs.ShownLemmas.{BodyShown, ReturnShown, body_same, body_shown, return_shown, shown_same}
 use Rattle.px_stream.proofs.UpLookLemmas.{UpFails, UpJudged, UpStays, beside, body_not, both, down_not, head_not, sent_all, up_judged}
-
--- the server of the parked side
-pub parked_used : (parked : Option Parked) (seen : Sight) → used_in (parked_link parked seen) ≡ server_parked parked seen
-parked_used None seen = refl
-parked_used (Some parked) seen = refl
 
 -- ---- from what is found to where the flow is
 
@@ -77,14 +75,14 @@ module _ (terms : Terms) (at : At) (new : State) (later : Option Link) (out long
   Looked stage sees before = LookedAt terms at stage sees new later is_now before out longer
 
   at_seen : (stage : Stage) (seen : Sight) (before more : List Command) (l : Look Command) → look terms stage seen ≡ l → longer ≡ out ++ more →
-      ((view : View) → seen_of view (before ++ more) ≡ seen_of view (so_far terms stage seen ++ found_with (behind stage seen) l)) → PhaseAt l terms at new later is_now stage seen → Looked stage seen before
+      ((view : View) → seen_of view (before ++ more) ≡ seen_of view (waits_at terms stage seen ++ found_with (behind stage seen) l)) → PhaseAt l terms at new later is_now stage seen → Looked stage seen before
   at_seen stage seen before more l is grown owes there =
-      let P : Look Command → Type 0 = λ k. (view : View) → seen_of view (before ++ more) ≡ seen_of view (so_far terms stage seen ++ found_with (behind stage seen) k) in
+      let P : Look Command → Type 0 = λ k. (view : View) → seen_of view (before ++ more) ≡ seen_of view (waits_at terms stage seen ++ found_with (behind stage seen) k) in
       let Q : Look Command → Type 0 = λ k. PhaseAt k terms at new later is_now stage seen in
       record { more = more; grown = grown; owes = subst P (sym is) owes; phase = subst Q (sym is) there }
 
   at_look : (stage : Stage) (seen : Sight) (before more : List Command) (l : Look Command) → look terms stage seen ≡ l → longer ≡ out ++ more →
-      before ++ more ≡ so_far terms stage seen ++ found_with (behind stage seen) l → PhaseAt l terms at new later is_now stage seen → Looked stage seen before
+      before ++ more ≡ waits_at terms stage seen ++ found_with (behind stage seen) l → PhaseAt l terms at new later is_now stage seen → Looked stage seen before
   at_look stage seen before more l is grown owes there = at_seen stage seen before more l is grown (λ view. ap (seen_of view) owes) there
 
   -- ---- a request's head
@@ -94,15 +92,15 @@ module _ (terms : Terms) (at : At) (new : State) (later : Option Link) (out long
     here = request_in seen
 
     abbrev used : Used
-    used = server_parked at.parked seen
+    used = server_parked (unspoilt_at at seen).parked seen
 
     -- what was read, where it is known whether a CONNECT is there
     read_as : (connects : Option Connect) → connect_in terms.place here ≡ connects → HeadRead (connect_in terms.place here) here seen.client new → HeadRead connects here seen.client new
     read_as connects is reads = let P : Option Connect → Type 0 = λ c. HeadRead c here seen.client new in subst P is reads
 
     -- the conversation ends, unless a CONNECT is there
-    over_by : connect_in terms.place here ≡ None → IsLastAt (connect_in terms.place here) seen new ready.Over
-    over_by is = let P : Option Connect → Type 0 = λ c. IsLastAt c seen new ready.Over in subst P (sym is) refl
+    over_by : connect_in terms.place here ≡ None → IsLastAt at (connect_in terms.place here) seen new later ready.Over
+    over_by is = let P : Option Connect → Type 0 = λ c. IsLastAt at c seen new later ready.Over in subst P (sym is) refl
 
     finds_by : (head : ReadRequest) (made : Judged) → judged terms.place head ≡ made → head_in here ≡ Some head →
         look terms (idle at) seen ≡ or_leaves seen.closed (shut_server used) (look_judged terms at.flow head made seen.now used seen.closed)
@@ -132,8 +130,8 @@ module _ (terms : Terms) (at : At) (new : State) (later : Option Link) (out long
         let connects : Connect = record { address = address; used = whole.0 } in
         let found_there : connect_in terms.place here ≡ Some connects = connect_there terms.place here head whole.0 address whole.1 accepts in
         let (rest, open_still, most) = read_as (Some connects) found_there reads in
-        let P : Option Connect → Type 0 = λ c. IsLastAt c seen new (ready.Connects address) in
-        let last : IsLastAt (Some connects) seen new (ready.Connects address) = record { phase = refl; keeps = record { rest = rest; open_still = open_still } } in
+        let P : Option Connect → Type 0 = λ c. IsLastAt at c seen new later (ready.Connects address) in
+        let last : IsLastAt at (Some connects) seen new later (ready.Connects address) = record { phase = refl; keeps = record { rest = rest; open_still = open_still }; parked = parked } in
         at_look (idle at) seen [] [] (Ends []) (finds_by head (Connects address) accepts stands) grown refl (ready.Connects address, there, subst P (sym found_there) last)
 
     head_by : (head : ReadRequest) → head_in here ≡ Some head → HeadRead (connect_in terms.place here) here seen.client new →
@@ -231,7 +229,7 @@ module _ (terms : Terms) (at : At) (new : State) (later : Option Link) (out long
 
     passed_by : (given : Option Response) (item : Item ReadRequest) → request_in seen ≡ item → IsGoneFor terms.place at flow (request_body given most) seen → PassedBy given item →
         Looked (pass terms (busy at flow (request_body given most)) seen).stage (sight_past terms (busy at flow (request_body given most)) seen) []
-    passed_by None item is kept looked = let P : Bool → Type 0 = λ b. Behind (pass_going b terms.place at flow most) seen in subst P (sym kept) looked
+    passed_by None item is kept looked = let P : Bool → Type 0 = λ b. Behind (pass_going b terms.place at flow most seen) seen in subst P (sym kept) looked
     passed_by (Some response) item is kept looked = subst (PassedBy (Some response)) (sym is) looked
 
     part_by : (given : Option Response) (head : ReadRequest) (body : Body) → Looked (busy at flow (request_body given most)) seen [] → PassedBy given (part head body)
@@ -249,7 +247,7 @@ module _ (terms : Terms) (at : At) (new : State) (later : Option Link) (out long
 
     body_by : (given : Option Response) (head : ReadRequest) (content : List ℕ) (held : Option HeldRequest) (got : Progress) (shown : BodyShown got head seen.client new content) →
         IsGoneFor terms.place at flow (request_body given most) seen → seen.told ≡ 0 → StillBody got given head content held shown →
-        longer ≡ out ++ body_gives flow given got content seen.now (server_parked at.parked seen) seen.closed → is_now ≡ body_phase flow given most got content held seen.now seen.closed →
+        longer ≡ out ++ body_gives flow given got content seen.now (server_parked (unspoilt_at at seen).parked seen) seen.closed → is_now ≡ body_phase flow given most got content held seen.now seen.closed →
         Looked (pass terms (busy at flow (request_body given most)) seen).stage (sight_past terms (busy at flow (request_body given most)) seen) []
     body_by given head content held progress.Missing (all, is, same, reads) kept untold holds grown there =
         passed_by given (part head (body_of all)) is kept (part_by given head (body_of all)
@@ -328,13 +326,13 @@ module _ (terms : Terms) (at : At) (new : State) (later : Option Link) (out long
         first_look : (l : Look Command) → or_leaves seen.closed (leaving heads seen) (look_answer flow final seen.now (server_in server seen) seen.closed) ≡ l → look terms heads seen ≡ l
         first_look l is = ap (or_leaves seen.closed (leaving heads seen)) (stays.finds _ _) ∙ is
 
-        relayed_by : (head : ReadResponse) (b : Bool) → is_relayed head.code ≡ b → head_in final ≡ Some head → is_interim head ≡ false →
+        relayed_by : (head : ReadResponse) (b : Bool) → is_relayed head.code ≡ b → head_in final ≡ Some head → is_interim head ≡ false → link.persists ≡ read_persists flow.request head →
             IsLink flow.request server seen (sent ++ more) (answers head ∷ []) link →
             longer ≡ between ++ relays b flow head seen.now (server_in server seen) seen.closed → is_now ≡ relayed_phase b flow server up head seen.now → Looked heads seen (its ++ heard)
-        relayed_by head true relayed stands is_final is_link gives there =
+        relayed_by head true relayed stands is_final lasts is_link gives there =
             let told : Flow = with_answer flow (response_of head) seen.now in
             let asks_now : look_answer_head flow head seen.now (server_in server seen) seen.closed ≡ Asks (ask_of told ResponseHead) = rw relayed refl in
-            let read : ReadsFinal flow.request server seen link = record { sent = sent ++ more; head = head; stands = stands; final = is_final; is_link = is_link } in
+            let read : ReadsFinal flow.request server seen link = record { sent = sent ++ more; head = head; lasts = lasts; stands = stands; final = is_final; is_link = is_link } in
             answered (Asks (ask_of told ResponseHead)) (first_look _ (ap (or_leaves seen.closed (leaving heads seen)) (same_look final head stands ∙ asks_now))) gives (
               asked.ResponseHead told server up,
               there,
@@ -345,7 +343,7 @@ module _ (terms : Terms) (at : At) (new : State) (later : Option Link) (out long
                 has_side = subst (IsOpen (ReadsFinal flow.request server seen)) (sym open_is) read;
               },
             )
-        relayed_by head false relayed stands is_final is_link gives there =
+        relayed_by head false relayed stands is_final lasts is_link gives there =
             let owed : List Command = ends_by_fault flow BadResponse seen.now (server_in server seen) seen.closed in
             let ends_now : look_answer_head flow head seen.now (server_in server seen) seen.closed ≡ Ends owed = rw relayed refl in
             answered (Ends owed) (first_look _ (ap (or_leaves seen.closed (leaving heads seen)) (same_look final head stands ∙ ends_now))) gives (ready.Over, there, refl)
@@ -378,16 +376,16 @@ module _ (terms : Terms) (at : At) (new : State) (later : Option Link) (out long
 
     answer_by : (bad : Option Fault) → UpJudged terms flow seen up was new bad → (sent more : List ReadResponse) (link : Link) (between : List Command) (got : FinalHead) → later ≡ Some link →
         between ≡ out ++ sends_on (is_http11 flow.request.version) more →
-        AnswerCome got (is_head flow.request.method) server seen.server seen.shut (sent ++ more) link →
+        AnswerCome got (is_head flow.request.method) server seen.server seen.shut (sent ++ more) link → Lasts flow.request got link →
         longer ≡ between ++ unless_bad bad flow seen.now (server_in server seen) seen.closed (answer_gives flow got seen.now (server_in server seen) seen.closed) →
         is_now ≡ unless_over bad (answer_phase flow server up got seen.now seen.closed) → Looked heads seen (its ++ interim_commands flow.request sent)
-    answer_by (Some fault) fails sent more link between got open_is grown come gives there =
+    answer_by (Some fault) fails sent more link between got open_is grown come lasts gives there =
         bad_up_by sent more link between open_is grown (interim_come got sent more link come) fault fails gives there
-    answer_by None stays sent more link between (answer.Head head) open_is grown (is_link, stands, is_final, interim) gives there =
-        relayed_by sent more link between open_is grown interim stays head (is_relayed head.code) refl stands is_final is_link gives there
-    answer_by None stays sent more link between (answer.Bad fault) open_is grown (is_link, is, interim) gives there =
+    answer_by None stays sent more link between (answer.Head head) open_is grown (is_link, stands, is_final, interim) lasts gives there =
+        relayed_by sent more link between open_is grown interim stays head (is_relayed head.code) refl stands is_final lasts is_link gives there
+    answer_by None stays sent more link between (answer.Bad fault) open_is grown (is_link, is, interim) lasts gives there =
         bad_answer_by sent more link between open_is grown interim stays fault is gives there
-    answer_by None stays sent more link between answer.Missing open_is grown (is_link, is, interim, quiet) gives there =
+    answer_by None stays sent more link between answer.Missing open_is grown (is_link, is, interim, quiet) lasts gives there =
         no_answer_by sent more link between open_is grown interim stays seen.closed refl is is_link quiet gives there
 
     -- ---- the end of a response that is streamed
@@ -468,7 +466,7 @@ module _ (terms : Terms) (at : At) (new : State) (later : Option Link) (out long
           (λ view. seen_append view its more ∙ (ap (λ a. a ++ seen_of view more) (sent_up view) ∙ (sym (seen_append view owes_up more) ∙ ap (λ m. seen_of view (owes_up ++ m)) found_is))) there
 
       module _ (sent : List ReadResponse) (head : ReadResponse) (is_final : is_interim head ≡ false) (old : Link) (responses : State) (is_open : later ≡ Some (record old { responses = responses }))
-          (number : old.server ≡ server) (shut_is : old.closed ≡ seen.shut) where
+          (number : old.server ≡ server) (shut_is : old.closed ≡ seen.shut) (lasts : old.persists ≡ read_persists flow.request head) where
         abbrev here_shown : Progress → List ℕ → Type 0
         here_shown got content = ReturnShown (is_head flow.request.method) server seen.server seen.shut sent head is_final got old responses content
 
@@ -490,7 +488,7 @@ module _ (terms : Terms) (at : At) (new : State) (later : Option Link) (out long
               body_at owed (Ends owed) (body_look _ (rw (shut, is) refl)) refl grown (ready.Over, there, refl)
           no_return_by all content false shut is same is_link grown there holds =
               let read : ReadsReturn flow server most seen content held (record old { responses = responses }) =
-              record { sent = sent; head = head; marks = all; is_content = same; holds = holds; final = is_final; is_link = is_link } in
+              record { sent = sent; head = head; marks = all; is_content = same; holds = holds; final = is_final; lasts = lasts; is_link = is_link } in
               body_at [] NotYet (body_look _ (rw (shut, is) refl)) refl grown (
                 ready.ResponseBody flow server up most content held,
                 record { interim = []; text = []; up = was },
@@ -511,7 +509,8 @@ module _ (terms : Terms) (at : At) (new : State) (later : Option Link) (out long
               let told : Flow = with_returned flow body.content trailers seen.now in
               let left : server_left bodies seen ≡ drop ((answers_in flow.request seen).used + size) seen.server =
               ap (λ i. left_by i (drop (answers_in flow.request seen).used seen.server)) is ∙ drop-drop size (answers_in flow.request seen).used seen.server in
-              let kept : LinkKeeps server (server_left bodies seen) seen.shut (record old { responses = responses }) = record { server = number; closed = shut_is; rest = rest ∙ sym left } in
+              let ends : LinkEnds flow.request server (server_left bodies seen) seen (record old { responses = responses }) =
+              record { keeps = record { server = number; closed = shut_is; rest = rest ∙ sym left }; lasts = lasts ∙ sym (ap (whole_persists flow.request) is) } in
               body_at (ask_of told ResponseBody ∷ []) (Asks (ask_of told ResponseBody)) (body_look _ (rw is refl)) refl
               (grown ∙ ap (λ l. out ++ ask_of (with_returned flow l trailers seen.now) ResponseBody ∷ []) same) (
                 asked.ResponseBody told server up,
@@ -520,7 +519,7 @@ module _ (terms : Terms) (at : At) (new : State) (later : Option Link) (out long
                   asks = ap (λ i. returned_asked flow server i seen.now) is;
                   how = refl;
                   request = stays.asked bodies refl;
-                  has_side = subst (IsOpen (LinkKeeps server (server_left bodies seen) seen.shut)) (sym is_open) kept;
+                  has_side = subst (IsOpen (LinkEnds flow.request server (server_left bodies seen) seen)) (sym is_open) ends;
                 },
               )
 
@@ -577,13 +576,17 @@ module _ (terms : Terms) (at : At) (seen : Sight) (old new : State) (side later 
   answer_looked flow server up None new_side is reads none shut is_open kept it = absurd is_open
   answer_looked flow server up (Some link) None is reads none shut is_open kept it = absurd it.read
   answer_looked flow server up (Some link) (Some further) is reads none shut is_open kept it =
-      let read = it.read (is_head flow.request.method) server seen.server seen.shut sent.interim is_open in
+      let read = it.read.reads (is_head flow.request.method) server seen.server seen.shut sent.interim is_open in
+      let all : List ReadResponse = sent.interim ++ read.more in
+      let P : Link → Type 0 = λ l. AnswerCome it.got (is_head flow.request.method) server seen.server seen.shut all l in
+      let come : P further = subst P (sym it.read.noted) (come_noted flow.request it.got (is_head flow.request.method) server seen.server seen.shut all it.read.read read.come) in
+      let lasts : Lasts flow.request it.got further = subst (Lasts flow.request it.got) (sym it.read.noted) (lasts_noted flow.request it.got it.read.read) in
       let used : used_in (Some link) ≡ server_in server seen = open_used server link is_open.server is_open.closed in
       let not = head_not up server seen kept in
       let given : ℕ → Used → Bool → List Command = λ m u c. it.between ++ unless_bad it.bad flow m u c (answer_gives flow it.got m u c) in
       gone_there flow (response_head server (sent_of up)) (sent_on (busy at flow (response_head server (sent_of up))) sent) kept
       (answer_by terms at new later out longer is_now seen flow server up sent.up (sent_all terms flow server seen up sent.up old reads none not)
-      it.bad (up_judged terms flow seen up sent.up old new it.bad reads none not it.up_read) sent.interim read.more further it.between it.got (sym is) read.grown read.come
+      it.bad (up_judged terms flow seen up sent.up old new it.bad reads none not it.up_read) sent.interim read.more further it.between it.got (sym is) read.grown come lasts
       (it.gives ∙ (ap (λ m. given m (used_in (Some link)) closed) now ∙ (ap (λ u. given seen.now u closed) used ∙ ap (λ c. given seen.now (server_in server seen) c) shut)))
       (it.phase ∙ (ap (λ m. unless_over it.bad (answer_phase flow server up it.got m closed)) now ∙ ap (λ c. unless_over it.bad (answer_phase flow server up it.got seen.now c)) shut)))
 
@@ -591,7 +594,7 @@ module _ (terms : Terms) (at : At) (seen : Sight) (old new : State) (side later 
   still_holds : (flow : Flow) (server : ℕ) (up : Sending) (sent_up : (view : View) → seen_of view (sends_while (sent_of up) server sent.up) ≡ seen_of view (sends_up terms.place flow server (sent_of up) seen))
       (most : Option ℕ) (content body : List ℕ) (held : Option Held) (got : Progress) (link : Link) (responses : State) (link_is : later ≡ Some (record link { responses = responses }))
       (read : ReadsReturn flow server most seen content held link) (come : HasRead got link.responses content responses body) → HasNoMoreDown (ready.ResponseBody flow server up most content held) (Some link) →
-      StillHolds terms at new later out longer is_now seen flow server up sent.up sent_up most held read.sent read.head read.final link responses link_is read.is_link.server read.is_link.closed got body
+      StillHolds terms at new later out longer is_now seen flow server up sent.up sent_up most held read.sent read.head read.final link responses link_is read.is_link.server read.is_link.closed read.lasts got body
       (return_shown (is_head flow.request.method) server seen.server seen.shut read.sent read.head read.final got read.marks link responses content body read.is_link read.is_content come)
   still_holds flow server up sent_up most content body None progress.Missing link responses link_is read come no_more = read.holds
   still_holds flow server up sent_up most content body (Some held) progress.Missing link responses link_is read come no_more =
@@ -618,7 +621,7 @@ module _ (terms : Terms) (at : At) (seen : Sight) (old new : State) (side later 
       let given : ℕ → Used → Bool → List Command = λ m u c. out ++ unless_bad it.bad flow m u c (returned_gives flow it.got it.body m u c) in
       gone_there flow (response_body server (sent_of up) most) before kept (subst P (sym came)
       (return_by terms at new later out longer is_now seen flow server up sent.up sent_up most held is_open.sent is_open.head is_open.final link further.responses
-      there is_open.is_link.server is_open.is_link.closed it.bad (up_judged terms flow seen up sent.up old new it.bad reads none not it.up_read) it.got it.body shown
+      there is_open.is_link.server is_open.is_link.closed is_open.lasts it.bad (up_judged terms flow seen up sent.up old new it.bad reads none not it.up_read) it.got it.body shown
       (it.gives ∙ (ap (λ m. given m (used_in (Some link)) closed) now ∙ (ap (λ u. given seen.now u closed) used ∙ ap (λ c. given seen.now (server_in server seen) c) shut)))
       (it.phase ∙ (ap (λ m. unless_over it.bad (returned_phase flow server up most it.got it.body held m closed)) now ∙ ap (λ c. unless_over it.bad (returned_phase flow server up most it.got it.body held seen.now c)) shut))
       (still_holds flow server up sent_up most content it.body held it.got link further.responses there is_open it.read.read no_more)))
@@ -646,9 +649,9 @@ module _ (terms : Terms) (at : At) (seen : Sight) (old new : State) (side later 
 
   -- a parked side stays, and its server is the one that is seen
   parked_looked : (looked : Wanted) → side ≡ parked_link at.parked seen → closed ≡ seen.closed → LookFound terms at (used_in side) moment closed looked old new side later out longer is_now →
-      LookFound terms at (server_parked at.parked seen) seen.now seen.closed looked old new side later out longer is_now
+      LookFound terms at (server_parked (unspoilt_at at seen).parked seen) seen.now seen.closed looked old new side later out longer is_now
   parked_looked looked parked shut it =
-      found_in terms at looked old new side later out longer is_now (used_in side) (server_parked at.parked seen) moment seen.now closed seen.closed
+      found_in terms at looked old new side later out longer is_now (used_in side) (server_parked (unspoilt_at at seen).parked seen) moment seen.now closed seen.closed
       (ap used_in parked ∙ parked_used at.parked seen) now shut it
 
   still_body : (flow : Flow) (given : Option Response) (most : Option ℕ) (content body : List ℕ) (held : Option HeldRequest) (got : Progress) (parked : later ≡ parked_link at.parked seen)
@@ -674,7 +677,7 @@ module _ (terms : Terms) (at : At) (seen : Sight) (old new : State) (side later 
   advanced_by (ready.Connection flow up) reads parked place kept no_more it =
       let (same, once) = parked_looked (ready.Connection flow up) parked place.client it in
       let dial : Command = commands.Dial at.dials (dialled_for terms.place flow.request) None in
-      at_look terms at new later out longer is_now (busy at flow (connection (sent_by up))) seen [] (dial ∷ shut_server (server_parked at.parked seen)) (Asks dial) refl once.gives refl
+      at_look terms at new later out longer is_now (busy at flow (connection (sent_by up))) seen [] (dial ∷ shut_server (server_parked (unspoilt_at at seen).parked seen)) (Asks dial) refl once.gives refl
       (asked.Connection flow at.dials up, once.phase, record { asks = refl; how = refl; request = subst (WaitsUp terms flow seen up) (sym once.same) reads; has_side = same ∙ parked })
   advanced_by (ready.ResponseHead flow server up) reads is_open place kept no_more it = answer_looked flow server up side later refl reads no_more.up place.client is_open kept.gone it
   advanced_by (ready.ResponseBody flow server up most content held) reads is_open place kept no_more it =

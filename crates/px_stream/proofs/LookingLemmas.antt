@@ -33,7 +33,7 @@ use Rattle.px_stream.specs.declared.link.Link.{Link}
 use Rattle.px_stream.specs.declared.phase.Phase.{Phase}
 use Rattle.px_stream.specs.declared.reading.FinalHead.{FinalHead}
 use Rattle.px_stream.specs.Looks.{AnswerFound, BehindJudged, BodyFound, ComingFound, EndsBy, FoundAtOnce, HeadFound, HeadRead, ReadsMore, ReturnFound, UpRead, answer_gives, answer_phase, body_gives, body_phase, coming_gives, coming_phase, head_phase, returned_gives, returned_phase, unless_bad, unless_broken, unless_over}
-use Rattle.px_stream.specs.Responses.{ReadsAnswer}
+use Rattle.px_stream.specs.Responses.{ReadsHead}
 use Rattle.px_stream.specs.Stands.{StaysOpen, marks_at}
 use Rattle.px_stream.proofs.HeadLemmas.{connect_asks, connect_there, no_connect}
 
@@ -104,7 +104,7 @@ body_found (Ok next) flow given most content body held old new moment parked clo
 body_found (Err e) flow given most content body held old new moment parked closed out longer got read gives phase = tt
 
 pub answer_found : {E : Type 0} (result : Result Phase E) (flow : Flow) (server : ℕ) (up : Sending) (bad : Option Fault) (requests later : State) (old new : Option Link) (moment : ℕ) (used : Used) (closed : Bool) (out between longer : List Command) (got : FinalHead) →
-    UpRead up bad requests later → StaysOpen (λ link later. ReadsAnswer got (is_http11 flow.request.version) link out later between) old new →
+    UpRead up bad requests later → StaysOpen (λ link later. ReadsHead flow.request got (is_http11 flow.request.version) link out later between) old new →
     OnOk result (longer ≡ between ++ unless_bad bad flow moment used closed (answer_gives flow got moment used closed)) →
     IfOk result (λ next. next ≡ unless_over bad (answer_phase flow server up got moment closed)) → IfOk result (λ next. AnswerFound flow server up requests later old new moment used closed out longer next)
 answer_found (Ok next) flow server up bad requests later old new moment used closed out between longer got up_read read gives phase =

@@ -265,9 +265,9 @@ ready_left terms at (ready.Connects address) seen waits = refl
 ready_left terms at ready.Over seen waits = refl
 
 -- at an end nothing is left
-none_at : (connects : Option Connect) (at : At) (seen : Sight) (requests : State) (last : Wanted) → IsLastAt connects seen requests last → left_by at (phase.Ready last) ≡ 0
-none_at None at seen requests last is = ap (λ l. left_by at (phase.Ready l)) is
-none_at (Some connects) at seen requests last is = ap (λ l. left_by at (phase.Ready l)) is.phase
+none_at : (here : At) (connects : Option Connect) (at : At) (seen : Sight) (requests : State) (side : Option Link) (last : Wanted) → IsLastAt here connects seen requests side last → left_by at (phase.Ready last) ≡ 0
+none_at here None at seen requests side last is = ap (λ l. left_by at (phase.Ready l)) is
+none_at here (Some connects) at seen requests side last is = ap (λ l. left_by at (phase.Ready l)) is.phase
 
 none_for : (flow : Flow) (doing : Doing) (at : At) (seen : Sight) (requests : State) (side : Option Link) (last : Wanted) → IsLastFor flow doing seen requests side last → left_by at (phase.Ready last) ≡ 0
 none_for flow (request_body given most) at seen requests side last is = ap (λ l. left_by at (phase.Ready l)) is
@@ -280,7 +280,7 @@ none_for flow given_head at seen requests side last is = ap (λ l. left_by at (p
 none_for flow given_body at seen requests side last is = ap (λ l. left_by at (phase.Ready l)) is
 
 none_last : (terms : Terms) (stage : Stage) (at : At) (seen : Sight) (requests : State) (side : Option Link) (last : Wanted) → IsLast terms stage seen requests side last → left_by at (phase.Ready last) ≡ 0
-none_last terms (idle here) at seen requests side last is = none_at (connect_in terms.place (request_in seen)) at seen requests last is
+none_last terms (idle here) at seen requests side last is = none_at here (connect_in terms.place (request_in seen)) at seen requests side last is
 none_last terms (busy here flow doing) at seen requests side last is = none_for flow doing at seen requests side last is
 none_last terms (next here) at seen requests side last is = ap (λ l. left_by at (phase.Ready l)) is
 none_last terms over at seen requests side last is = ap (λ l. left_by at (phase.Ready l)) is

@@ -20,8 +20,8 @@ use Rattle.px_stream.specs.declared.phase.Wanted.{Wanted}
 use Rattle.px_stream.specs.declared.phase.Wanted.TheVariants as ready
 use Rattle.px_stream.specs.Comings.{GoesOverHeld}
 use Rattle.px_stream.specs.Goings.{framed_up_by, goes_up_with}
-use Rattle.px_stream.specs.GoingUp.{HeldUpPassed, HeldUpWent, LedUp, Raised, RaisedTo, StartedUp, TakesSide, WentUp, begins_with}
-use Rattle.px_stream.specs.Turns.{opened_side}
+use Rattle.px_stream.specs.GoingUp.{HeldUpPassed, HeldUpWent, LedUp, Raised, RaisedTo, StartedUp, TakesSide, WentUp}
+use Rattle.px_stream.specs.Turns.{opened_side, with_open}
 
 -- the side that was parked is taken
 pub takes_by : (place : Place) (at : At) (moment : ℕ) (flow connected : Flow) (server : ℕ) (sent : Request) (got : Progress) (text : List ℕ) (told : Flow) (goes : Sending) (side later : Option Link) (out longer : List Command) →
@@ -45,7 +45,7 @@ led_to_side (Err e) place at now moment flow server sent got text side later out
 
 -- it begins
 pub started_by : {E : Type 0} (result : Result Wanted E) (place : Place) (at now : At) (moment : ℕ) (flow told : Flow) (read framed sent : Request) (got : Progress) (said text : List ℕ) (parked : Option ℕ) (side later : Option Link)
-    (out longer : List Command) → parked ≡ parked_for place flow.request at.parked → told ≡ sending_on flow → framed ≡ framed_up_by read told.request → text ≡ request_head_text framed (form_at place) ++ said → sent ≡ framed →
+    (out longer : List Command) → parked ≡ parked_for place flow.request (with_open at side).parked → told ≡ sending_on flow → framed ≡ framed_up_by read told.request → text ≡ request_head_text framed (form_at place) ++ said → sent ≡ framed →
     IfOk result (λ next. LedUp parked place at now moment told sent got text next side later out longer) →
     IfOk result (λ next. StartedUp place at now moment flow read got said next side later out longer)
 started_by (Ok next) place at now moment flow told read framed sent got said text parked side later out longer is_parked is_told is_framed is_text is_sent led = record {
@@ -64,12 +64,12 @@ IsOf old more = more ≡ record old { body = more.body; held = record old.held {
 
 module _ (place : Place) (at now : At) (moment : ℕ) (old more : Undecided) (got : Progress) (before after : State) (side later : Option Link) (out longer : List Command) (same : IsOf old more)
     (read : GoesOverHeld got before old.body old.held.said.items after more.body more.held.said.items) where
-  judged : (b : Bool) → begins_with place at more.flow side (goes_up_with more.held.read more.most (length more.body)) ≡ b →
-      begins_with place at old.flow side (goes_up_with old.held.read old.most (length more.body)) ≡ b
-  judged b is = let P : Undecided → Type 0 = λ u. begins_with place at u.flow side (goes_up_with u.held.read u.most (length more.body)) ≡ b in subst P same is
+  judged : (b : Bool) → goes_up_with more.held.read more.most (length more.body) ≡ b →
+      goes_up_with old.held.read old.most (length more.body) ≡ b
+  judged b is = let P : Undecided → Type 0 = λ u. goes_up_with u.held.read u.most (length more.body) ≡ b in subst P same is
 
   -- where it is streamed
-  pub up_started : {E : Type 0} (result : Result Wanted E) → begins_with place at more.flow side (goes_up_with more.held.read more.most (length more.body)) ≡ true →
+  pub up_started : {E : Type 0} (result : Result Wanted E) → goes_up_with more.held.read more.most (length more.body) ≡ true →
       IfOk result (λ next. StartedUp place at now moment more.flow more.held.read got more.held.said.items next side later out longer) →
       IfOk result (λ next. HeldUpPassed place at now moment old.flow old.given old.most old.body old.held next before after side later out longer)
   up_started (Ok next) streams started =
@@ -87,7 +87,7 @@ module _ (place : Place) (at now : At) (moment : ℕ) (old more : Undecided) (go
 -- and where it is not, so far
 pub up_held : (place : Place) (at : At) (moment : ℕ) (old more : Undecided) (got : Progress) (before after : State) (side : Option Link) (out : List Command) → IsOf old more →
     GoesOverHeld got before old.body old.held.said.items after more.body more.held.said.items →
-    begins_with place at more.flow side (goes_up_with more.held.read more.most (length more.body)) ≡ false →
+    goes_up_with more.held.read more.most (length more.body) ≡ false →
     HeldUpPassed place at at moment old.flow old.given old.most old.body old.held (ready.RequestBody more.flow more.given more.most more.body (Some more.held)) before after side side out out
 up_held place at moment old more got before after side out same read streams =
     let next : Wanted = ready.RequestBody more.flow more.given more.most more.body (Some more.held) in

@@ -1,9 +1,10 @@
 -- Where a body is read that may be streamed, or is, the machine passes as the chain does.
-use Rattle.std.proofs.Common.{◌≡◌, ℕ, ◌+◌, Bool, true, false, ◌&&◌, List, [], ◌∷◌, ◌++◌, length, Option, Some, None, refl, ap, sym, ◌∙◌, subst, arith, append_assoc}
+use Rattle.std.proofs.Common.{◌≡◌, ℕ, ◌+◌, Bool, true, false, ◌&&◌, List, [], ◌∷◌, ◌++◌, length, drop, Option, Some, None, refl, ap, sym, ◌∙◌, subst, arith, append_assoc}
 use Rattle.std.proofs.lemmas.Grind.{flat_map-append}
 use Rattle.std.proofs.lemmas.List.{append-nil}
 use Rattle.px_message.specs.Length.{has_no_body}
 use Rattle.px_message.specs.declared.flow.Flow.{Flow}
+use Rattle.px_message.specs.declared.request.Request.{Request}
 use Rattle.px_message.specs.declared.response.Response.{Response}
 use Rattle.px_event.proofs.Seen.{seen_append}
 use Rattle.px_event.specs.Chain.{Turn}
@@ -21,7 +22,7 @@ use Rattle.px_read.specs.Reader.{Message, Reads, State, before_all, reading_from
 use Rattle.px_read.specs.declared.head.ResponseHead.{ResponseHead as ReadResponse}
 use Rattle.px_write.specs.Text.{response_head_text}
 use Rattle.px_exchange.specs.Bodies.{HasCome, content_of}
-use Rattle.px_exchange.specs.Endings.{finished_streamed, shut_unless}
+use Rattle.px_exchange.specs.Endings.{finished_streamed, read_persists, shut_unless, unless_kept}
 use Rattle.px_exchange.specs.Flows.{response_of}
 use Rattle.px_exchange.specs.Requests.{is_head}
 use Rattle.px_exchange.specs.declared.body.Progress.{Progress}
@@ -35,9 +36,10 @@ use Rattle.px_parts.specs.Texts.{final_so_far, last_text, marks_text}
 use Rattle.px_chain.proofs.ComingLaws.{in_two}
 use Rattle.px_chain.specs.Chain.{behind_flow, come_down, going_at, gone_by, pass_came, pass_down, pass_kept, past_came, past_kept, sequence, sight_come}
 use Rattle.px_chain.specs.Coming.{Came, as_streamed, came_by, came_in, coming_by, coming_text, framed_as, streaming, streams_in}
-use Rattle.px_chain.specs.Sights.{Sight, answers_in, server_in}
+use Rattle.px_chain.specs.Keeping.{is_silent, keeps_side, parks}
+use Rattle.px_chain.specs.Sights.{Sight, answers_in, left_by_answers, server_in}
 use Rattle.px_chain.specs.Going.{is_sent, sends_up, whole_in}
-use Rattle.px_chain.specs.Stages.{At, Sent, Stage, busy, coming_down, idle, over, response_body, unparked}
+use Rattle.px_chain.specs.Stages.{At, Sent, Stage, busy, coming_down, idle, over, response_body}
 use Rattle.px_stream.specs.declared.coming.Held.{Held}
 use Rattle.px_stream.specs.declared.going.Sending.{Sending}
 use Rattle.px_stream.specs.declared.going.Sending.TheVariants as sending
@@ -47,10 +49,11 @@ use Rattle.px_stream.specs.declared.phase.Wanted.TheVariants as ready
 use Rattle.px_stream.specs.Comings.{framed_by, sends_text}
 use Rattle.px_stream.specs.Goings.{sends_while, sent_of}
 use Rattle.px_stream.specs.GoingUp.{HasNoMoreUp, IsGone, NoMoreUp}
-use Rattle.px_stream.specs.Passes.{CameTo, DownPassed, HasNoMore, HeldPassed, HeldWent, IsPassed, Passed, SaysMore, WentDown, ended_gives, ended_leads, is_passing, stays_behind, streams_by}
-use Rattle.px_stream.specs.Stands.{GoesOnUp, HasPlace, HasRequest, HasSide, IsLink, IsOpen, IsReady, Keeps, ReadsDown, ReadsLink, ReadsReturn, SentOn, none_sent, sent_on, stage_of, used_in}
-use Rattle.px_stream.specs.Turns.{requests_behind, side_behind}
-use Rattle.px_stream.proofs.CameLemmas.{finish_of, head_is, item_is, judged, none_left, read_as, streams_has_body, text_is}
+use Rattle.px_stream.specs.Passes.{CameTo, DownPassed, HasNoMore, HeldPassed, HeldWent, HoldsMore, IsPassed, Passed, SaysMore, SideCame, WentDown, ended_gives, ended_leads, is_passing, stays_behind, streams_by}
+use Rattle.px_stream.specs.Stands.{GoesOnUp, HasPlace, HasRequest, HasSide, IsLink, IsOpen, IsReady, Keeps, ReadsDown, ReadsLink, ReadsReturn, SentOn, StaysOpen, none_sent, parked_link, sent_on, silent_link, stage_of, unread_link, used_in}
+use Rattle.px_stream.specs.Turns.{keeps_on, new_side, requests_behind, side_behind, unless_parked}
+use Rattle.px_stream.proofs.CameLemmas.{finish_of, head_is, item_is, judged, left_is, none_left, read_as, streams_has_body, text_is}
+use Rattle.px_stream.proofs.TurnLemmas.{WentTo}
 use Rattle.px_stream.proofs.UpViewLemmas.{server_atoms, to_seen}
 use Rattle.px_stream.proofs.WentUpLemmas.{all_sent_of}
 
@@ -220,30 +223,44 @@ streaming_beside terms flow seen (sending.GoingUp goes) was_up old beside =
       gone = beside.gone;
     }
 
--- One passage of the machine, beside a request that stands so.
-module _ (terms : Terms) (at new : At) (seen : Sight) (old : State) (next : Wanted) (out longer : List Command) (up : Sending) (was_up : List ℕ) where
-  -- with the side that is open behind it, and what was sent before
-  abbrev Goes : Turn Stage Command → Sight → At → Wanted → Link → List Command → Type 0
-  Goes turn past there looked further before =
-      GoesTo terms turn past there (requests_behind (stage_of there looked) old) (side_behind false (stage_of there looked) (Some further)) looked before out longer
+-- where the machine goes, the side that was used is new behind the end of the flow
+came_to : (looked : Wanted) (at : At) (side later : Option Link) → SideCame looked side later → WentTo true (stage_of at looked) side later
+came_to ready.Idle at side later is = is
+came_to ready.Over at side later is = tt
+came_to looked at side later is = is
+
+-- One passage of the machine, beside a request that stands so, and with this side behind it.
+module _ (terms : Terms) (at new : At) (seen : Sight) (old : State) (next : Wanted) (out longer : List Command) (up : Sending) (was_up : List ℕ) (later : Option Link) where
+  -- with what was sent before
+  abbrev Goes : Turn Stage Command → Sight → At → Wanted → List Command → Type 0
+  Goes turn past there looked before = GoesTo terms turn past there (requests_behind (stage_of there looked) old) (side_behind false (stage_of there looked) later) looked before out longer
+
+  -- the side of this server is kept behind the flow, and the next one reads it from its beginning
+  parked_behind : (kept : Bool) (message : Request) (server : ℕ) (further : Link) (past : Sight) → further.server ≡ server → past.server ≡ [] → past.shut ≡ false → later ≡ new_side (Some further) →
+      let here : At = parks kept terms.place at message server in unless_parked here.parked later ≡ parked_link here.parked past
+  parked_behind true message server further past its empty is_open is =
+      is ∙ (ap (λ n. Some (unread_link n false [] false)) its ∙ (ap (λ l. silent_link (is_silent l false) server) (sym empty) ∙ ap (λ h. silent_link (is_silent past.server h) server) (sym is_open)))
+  parked_behind false message server further past its empty is_open is = refl
 
   -- a finished flow leads to a head of a request of which nothing was read, or to the end
-  ready_behind : (stays : Bool) (further : Link) → (stays ≡ true → Keeps seen.client old) → stage_of new next ≡ sequence (behind_flow stays (unparked at)) →
-      IsReady terms new (requests_behind (stage_of new next) old) (side_behind false (stage_of new next) (Some further)) next (sequence (behind_flow stays (unparked at)))
-      (record seen { server = []; shut = false }) none_sent
-  ready_behind true further keeps leads = record {
-    is_stage = leads;
-    request = (let first : Reads request [] seen.client false (before_all request old.rest false) =
-        subst (λ l. Reads request [] l false (before_all request old.rest false)) (keeps refl).rest (begins_here request old.rest) in
-        subst (λ s. Reads request [] seen.client false (requests_behind s old)) (sym leads) first);
-    has_side = ap (λ s. side_behind false s (Some further)) leads;
-  }
-  ready_behind false further keeps leads = record { is_stage = leads; request = tt; has_side = tt }
+  ready_behind : (stays kept : Bool) (message : Request) (server : ℕ) (further : Link) → further.server ≡ server → SideCame next (Some further) later → (stays ≡ true → Keeps seen.client old) →
+      let there : Stage = sequence (behind_flow stays (parks kept terms.place at message server)) in stage_of new next ≡ there →
+      IsReady terms new (requests_behind (stage_of new next) old) (side_behind false (stage_of new next) later) next there (record seen { server = []; shut = false }) none_sent
+  ready_behind true kept message server further its came keeps leads =
+      let there : Stage = sequence (behind_flow true (parks kept terms.place at message server)) in record {
+        is_stage = leads;
+        request = (let first : Reads request [] seen.client false (before_all request old.rest false) =
+            subst (λ l. Reads request [] l false (before_all request old.rest false)) (keeps refl).rest (begins_here request old.rest) in
+            subst (λ s. Reads request [] seen.client false (requests_behind s old)) (sym leads) first);
+        has_side = ap (λ s. side_behind false s later) leads
+            ∙ parked_behind kept message server further (record seen { server = []; shut = false }) its refl refl (subst (λ s. WentTo true s (Some further) later) leads (came_to next new (Some further) later came));
+      }
+  ready_behind false kept message server further its came keeps leads = record { is_stage = leads; request = tt; has_side = tt }
 
   -- ---- a response that is streamed: its head and all that came of it, of which this was said before
 
   module _ (flow : Flow) (server : ℕ) (answer : Response) (interim : List ReadResponse) (head : ReadResponse) (all : List Mark) (further : Link) (was text : List ℕ) (given : flow.response ≡ Some answer)
-      (has_body : has_no_body answer.status (is_head flow.request.method) ≡ false) (final : is_interim head ≡ false) (is_link : IsLink flow.request server seen interim (answers head ∷ all) further)
+      (has_body : has_no_body answer.status (is_head flow.request.method) ≡ false) (final : is_interim head ≡ false) (lasts : further.persists ≡ read_persists flow.request head) (is_link : IsLink flow.request server seen interim (answers head ∷ all) further)
       (said : was ++ text ≡ response_head_text (framed_by (response_of head) answer) ++ marks_text all) (beside : Beside terms flow seen up was_up old) where
     abbrev how : Sent
     how = sent_of up
@@ -259,13 +276,13 @@ module _ (terms : Terms) (at new : At) (seen : Sight) (old : State) (next : Want
     reading = response_reading (is_head flow.request.method) seen.shut is_link.fed
 
     abbrev GoesDown : Option Came → Type 0
-    GoesDown came = Goes (pass_came terms.place at flow server how seen came) (past_came came seen) new next further before
+    GoesDown came = Goes (pass_came terms.place at flow server how seen came) (past_came came seen) new next before
 
     -- it is not whole
-    comes_on : (to_come further.responses).marks ≡ [] → came_in flow seen ≡ None → longer ≡ out ++ sends_text text → new ≡ at → next ≡ ready.ComingDown flow server up sent_as → GoesDown None
-    comes_on none came grown here there =
-        let P : At → Wanted → Type 0 = λ a n. Goes (pass_came terms.place at flow server how seen None) seen a n further before in
-        let stays : P at (ready.ComingDown flow server up sent_as) = record {
+    comes_on : (to_come further.responses).marks ≡ [] → came_in flow seen ≡ None → longer ≡ out ++ sends_text text → new ≡ at → next ≡ ready.ComingDown flow server up sent_as → SideCame next (Some further) later → GoesDown None
+    comes_on none came grown here there side =
+        let P : At → Wanted → Type 0 = λ a n. SideCame n (Some further) later → Goes (pass_came terms.place at flow server how seen None) seen a n before in
+        let stays : P at (ready.ComingDown flow server up sent_as) = λ (same : later ≡ Some further). record {
           sent = record { interim = []; text = was ++ text; up = was_up };
           more = sends_text text;
           grown = grown;
@@ -278,20 +295,21 @@ module _ (terms : Terms) (at new : At) (seen : Sight) (old : State) (next : Want
           is_ready = record {
             is_stage = refl;
             request = beside.reads;
-            has_side = record {
+            has_side = subst (IsOpen (ReadsDown flow server seen (Some sent_as) (was ++ text))) (sym same) (record {
               sent = interim;
               head = head;
               marks = all;
               is_text = said;
               streamed = record { response = answer; is_given = given; is_sent = refl; has_body = has_body };
               final = final;
+              lasts = lasts;
               is_link = is_link;
-            };
+            });
           };
           is_passed = record { gone = beside.gone server; come = came };
-          no_more = record { up = beside.none_up; down = none };
+          no_more = record { up = beside.none_up; down = subst (IsOpen (λ link. (to_come link.responses).marks ≡ [])) (sym same) none };
         } in
-        subst (λ a. P a next) (sym here) (subst (λ n. P at n) (sym there) stays)
+        subst (λ a. P a next) (sym here) (subst (λ n. P at n) (sym there) stays) side
 
     -- all of it came
     abbrev came_here : Came
@@ -300,8 +318,22 @@ module _ (terms : Terms) (at new : At) (seen : Sight) (old : State) (next : Want
     abbrev goes_further : Bool
     goes_further = stays_behind at.flow flow up answer sent_as
 
+    -- its side is kept as the chain keeps it
+    abbrev kept : Bool
+    kept = goes_further && keeps_side flow.request seen head
+
     abbrev ending : List Command
-    ending = finished_streamed flow seen.now (server_in server seen) ++ shut_unless goes_further NoServer seen.closed
+    ending = finished_streamed flow seen.now (unless_kept kept (server_in server seen)) ++ shut_unless goes_further NoServer seen.closed
+
+    abbrev behind : Stage
+    behind = sequence (behind_flow goes_further (parks kept terms.place at flow.request server))
+
+    keeps_so : (trailers : List (List ℕ × List ℕ)) (used : ℕ) → reading ≡ read_as (answers head ∷ all) (whole trailers used) → further.responses.rest ≡ drop used is_link.fed →
+        keeps_on flow.request (Some further) ≡ keeps_side flow.request seen head
+    keeps_so trailers used is rest =
+        let left = left_is (is_head flow.request.method) seen.shut seen.server is_link.fed interim is_link.passes head final all (whole trailers used) is in
+        let stands : further.responses.rest ≡ left_by_answers (answers_in flow.request seen) seen.server = rest ∙ sym left in
+        rw (stands, is_link.closed, lasts) refl
 
     whole_text : (trailers : List (List ℕ × List ℕ)) (used : ℕ) → reading ≡ read_as (answers head ∷ all) (whole trailers used) →
         was ++ (text ++ last_text sent_as.fields trailers) ≡ coming_text flow seen
@@ -313,10 +345,10 @@ module _ (terms : Terms) (at new : At) (seen : Sight) (old : State) (next : Want
         ∙ sym (text_of flow seen answer head given (head_is (is_head flow.request.method) seen.shut seen.server is_link.fed interim is_link.passes head final all (whole trailers used) is)))))
 
     comes_whole : (trailers : List (List ℕ × List ℕ)) (used : ℕ) → reading ≡ read_as (answers head ∷ all) (whole trailers used) →
-        longer ≡ out ++ (sends_text (text ++ last_text sent_as.fields trailers) ++ ending) → stage_of new next ≡ sequence (behind_flow goes_further (unparked at)) → GoesDown (Some came_here)
-    comes_whole trailers used is grown leads =
+        longer ≡ out ++ (sends_text (text ++ last_text sent_as.fields trailers) ++ ending) → stage_of new next ≡ behind → SideCame next (Some further) later → GoesDown (Some came_here)
+    comes_whole trailers used is grown leads side =
         let last : List ℕ = text ++ last_text sent_as.fields trailers in
-        let there : Stage = sequence (behind_flow goes_further (unparked at)) in
+        let here : At = parks kept terms.place at flow.request server in
         record {
           sent = none_sent;
           more = sends_text last ++ ending;
@@ -331,10 +363,10 @@ module _ (terms : Terms) (at new : At) (seen : Sight) (old : State) (next : Want
               (texts_sent view was last ending ∙ (text_sent view (was ++ last) ending ∙ ap (λ t. seen_of view (commands.Send Client t ∷ ending)) (whole_text trailers used is)))
               ∙ (ap (λ l. l ++ seen_of view rest) (up_owed terms flow server seen up was_up old beside view)
               ∙ (sym (seen_append view owed rest)
-              ∙ ap (seen_of view) (sym (ap (λ l. (owed ++ rest) ++ l) (sent_behind goes_further (unparked at)) ∙ append-nil (owed ++ rest)))))));
-          is_ready = ready_behind goes_further further (λ stays. keeps_all terms flow seen up was_up old (both_first (is_sent (sent_of up)) _ stays) beside.reads) leads;
-          is_passed = passed_behind terms.place goes_further (unparked at) (record seen { server = []; shut = false });
-          no_more = none_behind goes_further (unparked at) new next (requests_behind (stage_of new next) old) (side_behind false (stage_of new next) (Some further)) leads;
+              ∙ ap (seen_of view) (sym (ap (λ l. (owed ++ rest) ++ l) (sent_behind goes_further here) ∙ append-nil (owed ++ rest)))))));
+          is_ready = ready_behind goes_further kept flow.request server further is_link.server side (λ stays. keeps_all terms flow seen up was_up old (both_first (is_sent (sent_of up)) _ stays) beside.reads) leads;
+          is_passed = passed_behind terms.place goes_further here (record seen { server = []; shut = false });
+          no_more = none_behind goes_further here new next (requests_behind (stage_of new next) old) (side_behind false (stage_of new next) later) leads;
         }
 
     -- its item there, by how the reading ended
@@ -348,28 +380,33 @@ module _ (terms : Terms) (at new : At) (seen : Sight) (old : State) (next : Want
     goes_down_by came is goes = subst GoesDown (sym is) goes
 
     goes_down : (got : Progress) → HasCome got reading (answers head ∷ all) is_link.fed further.responses →
-        WentDown at new seen.now (server_in server seen) seen.closed flow server up sent_as got text next out longer → GoesDown (came_in flow seen)
+        WentDown terms.place at new seen.now (server_in server seen) seen.closed flow server up sent_as got text next (Some further) later out longer → GoesDown (came_in flow seen)
     goes_down progress.Missing come went =
         let came = came_as goes_on come in
         goes_down_by None came
-        (comes_on (none_left progress.Missing (response (is_head flow.request.method)) (answers head ∷ all) is_link.fed seen.shut further.responses is_link.reads come) came went.gives went.leads.0 went.leads.1)
+        (comes_on (none_left progress.Missing (response (is_head flow.request.method)) (answers head ∷ all) is_link.fed seen.shut further.responses is_link.reads come) came went.gives went.leads.0 went.leads.1 went.is_side)
     goes_down (progress.Bad fault) come went =
         let came = came_as (fails fault) come in
         goes_down_by None came
-        (comes_on (none_left (progress.Bad fault) (response (is_head flow.request.method)) (answers head ∷ all) is_link.fed seen.shut further.responses is_link.reads come) came went.gives went.leads.0 went.leads.1)
+        (comes_on (none_left (progress.Bad fault) (response (is_head flow.request.method)) (answers head ∷ all) is_link.fed seen.shut further.responses is_link.reads come) came went.gives went.leads.0 went.leads.1 went.is_side)
     goes_down (progress.Whole trailers) come went =
         let last : List ℕ = text ++ last_text sent_as.fields trailers in
         goes_down_by (Some came_here) (came_as (whole trailers come.0) come.1)
         (comes_whole trailers come.0 come.1
-        (went.gives ∙ ap (λ o. out ++ (sends_text last ++ ended_gives at.flow flow up o sent_as seen.now (server_in server seen) seen.closed)) given)
-        (went.leads ∙ ap (λ o. ended_leads at flow up o sent_as) given))
+        (went.gives
+        ∙ (ap (λ o. out ++ (sends_text last ++ ended_gives at.flow flow up o sent_as (keeps_on flow.request (Some further)) seen.now (server_in server seen) seen.closed)) given
+        ∙ ap (λ k. out ++ (sends_text last ++ ended_gives at.flow flow up (Some answer) sent_as k seen.now (server_in server seen) seen.closed)) (keeps_so trailers come.0 come.1 come.2)))
+        (went.leads
+        ∙ (ap (λ o. ended_leads terms.place at flow server up o sent_as (keeps_on flow.request (Some further))) given
+        ∙ ap (ended_leads terms.place at flow server up (Some answer) sent_as) (keeps_so trailers come.0 come.1 come.2)))
+        went.is_side)
 
   -- ---- a response that is streamed already
 
   down_at : (flow : Flow) (server : ℕ) (is_sent : Response) (was : List ℕ) (link further : Link) → ReadsDown flow server seen (Some is_sent) was link → (got : Progress) (text : List ℕ) →
-      SaysMore got [] text link further → WentDown at new seen.now (server_in server seen) seen.closed flow server up is_sent got text next out longer →
+      SaysMore got [] text link further → WentDown terms.place at new seen.now (server_in server seen) seen.closed flow server up is_sent got text next (Some further) later out longer →
       Beside terms flow seen up was_up old →
-      Goes (come_down terms (busy at flow (coming_down server (sent_of up))) seen) (sight_come (busy at flow (coming_down server (sent_of up))) seen) new next further (sends_while (sent_of up) server was_up ++ sends_text was)
+      Goes (come_down terms (busy at flow (coming_down server (sent_of up))) seen) (sight_come (busy at flow (coming_down server (sent_of up))) seen) new next (sends_while (sent_of up) server was_up ++ sends_text was)
   down_at flow server is_sent was link further read got text more went beside =
       let asked_head : Bool = is_head flow.request.method in
       let told : List Mark = answers read.head ∷ read.marks in
@@ -384,15 +421,16 @@ module _ (terms : Terms) (at new : At) (seen : Sight) (old : State) (next : Want
       ∙ (ap (λ l. head_text ++ l) (sym (marks_both read.marks over.marks))
       ∙ ap (λ s. response_head_text s ++ marks_text all) framed))) in
       goes_down flow server read.streamed.response read.sent read.head all further was text read.streamed.is_given read.streamed.has_body read.final
+      (ap (λ (l : Link). l.persists) more.same ∙ read.lasts)
       (link_on asked_head server seen.server seen.shut read.sent told over.marks link further read.is_link more.same (over.reads (response asked_head) told read.is_link.fed seen.shut read.is_link.reads))
       said beside got (more.read.held.come (response asked_head) told read.is_link.fed seen.shut read.is_link.reads)
-      (subst (λ s. WentDown at new seen.now (server_in server seen) seen.closed flow server up s got text next out longer) framed went)
+      (subst (λ s. WentDown terms.place at new seen.now (server_in server seen) seen.closed flow server up s got text next (Some further) later out longer) framed went)
 
   -- ---- one that may yet be
 
   module _ (flow : Flow) (server : ℕ) (most : Option ℕ) (body : List ℕ) (held : Held) (link further : Link) (read : ReadsReturn flow server most seen body (Some held) link)
-      (it : HeldPassed at new seen.now (server_in server seen) seen.closed flow server up most body held next (Some link) (Some further) out longer) (beside : Beside terms flow seen up was_up old)
-      (gone : IsGone terms.place (busy at flow (response_body server (sent_of up) most)) seen) where
+      (got : Progress) (content : List ℕ) (more : Held) (same : more.read ≡ held.read) (over : HoldsMore got body held.said.items content more.said.items link further)
+      (beside : Beside terms flow seen up was_up old) (gone : IsGone terms.place (busy at flow (response_body server (sent_of up) most)) seen) where
     abbrev first : List Command
     first = sends_while (sent_of up) server was_up
 
@@ -403,43 +441,46 @@ module _ (terms : Terms) (at new : At) (seen : Sight) (old : State) (next : Want
     told = answers read.head ∷ read.marks
 
     abbrev all : List Mark
-    all = read.marks ++ it.read.read.over.marks
+    all = read.marks ++ over.read.over.marks
 
     abbrev is_link : IsLink flow.request server seen read.sent (answers read.head ∷ all) further
-    is_link = link_on asked_head server seen.server seen.shut read.sent told it.read.read.over.marks link further read.is_link it.read.same
-        (it.read.read.over.reads (response asked_head) told read.is_link.fed seen.shut read.is_link.reads)
+    is_link = link_on asked_head server seen.server seen.shut read.sent told over.read.over.marks link further read.is_link over.same
+        (over.read.over.reads (response asked_head) told read.is_link.fed seen.shut read.is_link.reads)
 
-    come_to : HasCome it.got (response_reading asked_head seen.shut read.is_link.fed) (answers read.head ∷ all) read.is_link.fed further.responses
-    come_to = it.read.read.come (response asked_head) told read.is_link.fed seen.shut read.is_link.reads
+    persists_on : further.persists ≡ read_persists flow.request read.head
+    persists_on = ap (λ (l : Link). l.persists) over.same ∙ read.lasts
 
-    content_is : it.body ≡ content_of all
+    come_to : HasCome got (response_reading asked_head seen.shut read.is_link.fed) (answers read.head ∷ all) read.is_link.fed further.responses
+    come_to = over.read.come (response asked_head) told read.is_link.fed seen.shut read.is_link.reads
+
+    content_is : content ≡ content_of all
     content_is =
-        it.read.read.over.grown
-        ∙ (ap (λ l. l ++ content_of it.read.read.over.marks) read.is_content ∙ sym (flat_map-append content_at read.marks it.read.read.over.marks))
+        over.read.over.grown
+        ∙ (ap (λ l. l ++ content_of over.read.over.marks) read.is_content ∙ sym (flat_map-append content_at read.marks over.read.over.marks))
 
-    read_is : it.more.read ≡ response_of read.head
-    read_is = it.same ∙ read.holds.1
+    read_is : more.read ≡ response_of read.head
+    read_is = same ∙ read.holds.1
 
-    said_is : it.more.said.items ≡ marks_text all
+    said_is : more.said.items ≡ marks_text all
     said_is =
-        it.read.read.over.says
-        ∙ (ap (λ l. l ++ marks_text it.read.read.over.marks) read.holds.2 ∙ sym (marks_both read.marks it.read.read.over.marks))
+        over.read.over.says
+        ∙ (ap (λ l. l ++ marks_text over.read.over.marks) read.holds.2 ∙ sym (marks_both read.marks over.read.over.marks))
 
-    streams_as : streams_in flow most seen ≡ streams_by flow flow.response held.read most (length it.body)
+    streams_as : streams_in flow most seen ≡ streams_by flow flow.response held.read most (length content)
     streams_as =
-        let ended = finish_of it.got (response_reading asked_head seen.shut read.is_link.fed) (answers read.head ∷ all) read.is_link.fed further.responses come_to in
+        let ended = finish_of got (response_reading asked_head seen.shut read.is_link.fed) (answers read.head ∷ all) read.is_link.fed further.responses come_to in
         judged flow flow.response seen.shut seen.server read.is_link.fed read.sent read.is_link.passes read.head read.final all ended.0 ended.1 most
         ∙ (ap (λ r. streams_by flow flow.response r most (length (content_of all))) (sym read.holds.1)
         ∙ ap (λ l. streams_by flow flow.response held.read most (length l)) (sym content_is))
 
     abbrev GoesBy : Bool → Type 0
-    GoesBy b = Goes (pass_kept b terms.place at flow server (sent_of up) most seen) (past_kept b (came_in (streaming flow) seen) seen) new next further first
+    GoesBy b = Goes (pass_kept b terms.place at flow server (sent_of up) most seen) (past_kept b (came_in (streaming flow) seen) seen) new next first
 
     -- it is held on
-    holds_on : streams_in flow most seen ≡ false → HeldWent false at new seen.now (server_in server seen) seen.closed flow server up most it.body it.more it.got next out longer → GoesBy false
-    holds_on streams went =
-        let P : At → Wanted → Type 0 = λ a n. Goes (pass_kept false terms.place at flow server (sent_of up) most seen) seen a n further first in
-        let stays : P at (ready.ResponseBody flow server up most it.body (Some it.more)) = record {
+    holds_on : streams_in flow most seen ≡ false → HeldWent false terms.place at new seen.now (server_in server seen) seen.closed flow server up most content more got next (Some further) later out longer → GoesBy false
+    holds_on streams (went, side) =
+        let P : At → Wanted → Type 0 = λ a n. Goes (pass_kept false terms.place at flow server (sent_of up) most seen) seen a n first in
+        let stays : P at (ready.ResponseBody flow server up most content (Some more)) = record {
           sent = record none_sent { up = was_up };
           more = [];
           grown = went.gives ∙ sym (append-nil out);
@@ -447,49 +488,56 @@ module _ (terms : Terms) (at new : At) (seen : Sight) (old : State) (next : Want
           is_ready = record {
             is_stage = refl;
             request = beside.reads;
-            has_side = record {
+            has_side = subst (IsOpen (ReadsReturn flow server most seen content (Some more))) (sym side) (record {
               sent = read.sent;
               head = read.head;
               marks = all;
               is_content = content_is;
               holds = (read.holds.0, read_is, said_is);
               final = read.final;
+              lasts = persists_on;
               is_link = is_link;
-            };
+            });
           };
           is_passed = record { gone = gone; come = streams };
-          no_more = record { up = beside.none_up; down = none_left it.got (response asked_head) (answers read.head ∷ all) read.is_link.fed seen.shut further.responses is_link.reads come_to };
+          no_more = record {
+            up = beside.none_up;
+            down = subst (IsOpen (λ link. (to_come link.responses).marks ≡ [])) (sym side)
+                (none_left got (response asked_head) (answers read.head ∷ all) read.is_link.fed seen.shut further.responses is_link.reads come_to);
+          };
         } in
         subst (λ a. P a next) (sym went.same) (subst (λ n. P at n) (sym went.is_there) stays)
 
     -- it is streamed from here on
-    starts_down : streams_by flow flow.response held.read most (length it.body) ≡ true →
-        HeldWent true at new seen.now (server_in server seen) seen.closed flow server up most it.body it.more it.got next out longer → GoesBy true
+    starts_down : streams_by flow flow.response held.read most (length content) ≡ true →
+        HeldWent true terms.place at new seen.now (server_in server seen) seen.closed flow server up most content more got next (Some further) later out longer → GoesBy true
     starts_down streams went =
         let head_text : List ℕ = response_head_text (framed_by (response_of read.head) went.response) in
         let P : Response → List ℕ → Type 0 = λ r l.
-        WentDown at new seen.now (server_in server seen) seen.closed (streaming flow) server up (framed_by r went.response) it.got (response_head_text (framed_by r went.response) ++ l) next out longer in
-        subst (Goes (pass_down terms.place at (streaming flow) server (sent_of up) seen) (past_came (came_in (streaming flow) seen) seen) new next further) (append-nil first)
+        WentDown terms.place at new seen.now (server_in server seen) seen.closed (streaming flow) server up (framed_by r went.response) got (response_head_text (framed_by r went.response) ++ l) next (Some further) later out longer in
+        subst (Goes (pass_down terms.place at (streaming flow) server (sent_of up) seen) (past_came (came_in (streaming flow) seen) seen) new next) (append-nil first)
         (goes_down (streaming flow) server went.response read.sent read.head all further [] (head_text ++ marks_text all) went.is_given
-        (given_has_body flow flow.response went.response held.read most (length it.body) went.is_given streams) read.final is_link refl (streaming_beside terms flow seen up was_up old beside) it.got come_to
-        (subst (λ l. P (response_of read.head) l) said_is (subst (λ r. P r it.more.said.items) read_is went.went)))
+        (given_has_body flow flow.response went.response held.read most (length content) went.is_given streams) read.final persists_on is_link refl (streaming_beside terms flow seen up was_up old beside) got come_to
+        (subst (λ l. P (response_of read.head) l) said_is (subst (λ r. P r more.said.items) read_is went.went)))
 
-    held_by : (b : Bool) → streams_by flow flow.response held.read most (length it.body) ≡ b → HeldWent b at new seen.now (server_in server seen) seen.closed flow server up most it.body it.more it.got next out longer →
+    held_by : (b : Bool) → streams_by flow flow.response held.read most (length content) ≡ b →
+        HeldWent b terms.place at new seen.now (server_in server seen) seen.closed flow server up most content more got next (Some further) later out longer →
         GoesBy b
     held_by true is went = starts_down is went
     held_by false is went = holds_on (streams_as ∙ is) went
 
-    held_at : GoesBy (streams_in flow most seen)
-    held_at = subst GoesBy (sym streams_as) (held_by (streams_by flow flow.response held.read most (length it.body)) refl it.went)
+    held_at : HeldWent (streams_by flow flow.response held.read most (length content)) terms.place at new seen.now (server_in server seen) seen.closed flow server up most content more got next (Some further) later out longer →
+        GoesBy (streams_in flow most seen)
+    held_at went = subst GoesBy (sym streams_as) (held_by (streams_by flow flow.response held.read most (length content)) refl went)
 
 -- ---- all that is looked for
 
-passed_in : (at new : At) (looked next : Wanted) (side middle : Option Link) (out longer : List Command) (used there : Used) (moment now : ℕ) (closed shut : Bool) → used ≡ there → moment ≡ now → closed ≡ shut →
-    Passed at new moment used closed looked next side middle out longer → Passed at new now there shut looked next side middle out longer
-passed_in at new looked next side middle out longer used there moment now closed shut one two three is =
-    subst (λ u. Passed at new now u shut looked next side middle out longer) one
-    (subst (λ m. Passed at new m used shut looked next side middle out longer) two
-    (subst (λ c. Passed at new moment used c looked next side middle out longer) three is))
+passed_in : (place : Place) (at new : At) (looked next : Wanted) (side middle : Option Link) (out longer : List Command) (used there : Used) (moment now : ℕ) (closed shut : Bool) → used ≡ there → moment ≡ now → closed ≡ shut →
+    Passed place at new moment used closed looked next side middle out longer → Passed place at new now there shut looked next side middle out longer
+passed_in place at new looked next side middle out longer used there moment now closed shut one two three is =
+    subst (λ u. Passed place at new now u shut looked next side middle out longer) one
+    (subst (λ m. Passed place at new m used shut looked next side middle out longer) two
+    (subst (λ c. Passed place at new moment used c looked next side middle out longer) three is))
 
 -- how the request stands meanwhile
 beside_for : (terms : Terms) (flow : Flow) (seen : Sight) (up : Sending) (text : List ℕ) (old : State) → GoesOnUp terms flow seen up text old → NoMoreUp up old →
@@ -520,37 +568,52 @@ module _ (terms : Terms) (at new : At) (seen : Sight) (old : State) (moment : �
   PassedOn middle stage =
       CameTo terms stage seen new (requests_behind (stage_of new next) old) (side_behind false (stage_of new next) middle) next (sent_on stage sent) out longer
 
+  body_from : (flow : Flow) (server : ℕ) (up : Sending) (most : Option ℕ) (body : List ℕ) (held : Held) (link : Link) (middle heard : Option Link) (got : Progress) (content : List ℕ) (more : Held) →
+      Beside terms flow seen up sent.up old → IsGone terms.place (busy at flow (response_body server (sent_of up) most)) seen → ReadsReturn flow server most seen body (Some held) link → more.read ≡ held.read →
+      StaysOpen (HoldsMore got body held.said.items content more.said.items) (Some link) heard →
+      HeldWent (streams_by flow flow.response held.read most (length content)) terms.place at new seen.now (server_in server seen) seen.closed flow server up most content more got next heard middle out longer →
+      PassedOn middle (busy at flow (response_body server (sent_of up) most))
+  body_from flow server up most body held link middle None got content more beside gone reads same reading went = absurd reading
+  body_from flow server up most body held link middle (Some further) got content more beside gone reads same reading went =
+      let stage : Stage = busy at flow (response_body server (sent_of up) most) in
+      goes_to_there terms stage seen new (requests_behind (stage_of new next) old) (side_behind false (stage_of new next) middle) next (sent_on stage sent) out longer
+      (held_at terms at new seen old next out longer up sent.up middle flow server most body held link further reads got content more same reading beside gone went)
+
   body_passed : (flow : Flow) (server : ℕ) (up : Sending) (most : Option ℕ) (body : List ℕ) (held : Held) (side middle : Option Link) → GoesOnUp terms flow seen up sent.up old → NoMoreUp up old →
       IsGone terms.place (busy at flow (response_body server (sent_of up) most)) seen → closed ≡ seen.closed →
-      IsOpen (ReadsReturn flow server most seen body (Some held)) side → HeldPassed at new moment (used_in side) closed flow server up most body held next side middle out longer →
+      IsOpen (ReadsReturn flow server most seen body (Some held)) side → HeldPassed terms.place at new moment (used_in side) closed flow server up most body held next side middle out longer →
       PassedOn middle (busy at flow (response_body server (sent_of up) most))
   body_passed flow server up most body held None middle reads none gone shut is_open it = absurd is_open
-  body_passed flow server up most body held (Some link) None reads none gone shut is_open it = absurd it.read
-  body_passed flow server up most body held (Some link) (Some further) reads none gone shut is_open it =
-      let stage : Stage = busy at flow (response_body server (sent_of up) most) in
-      goes_to_there terms stage seen new (requests_behind (stage_of new next) old) (side_behind false (stage_of new next) (Some further)) next (sent_on stage sent) out longer
-      (held_at terms at new seen old next out longer up sent.up flow server most body held link further is_open
-      (passed_in at new (ready.ResponseBody flow server up most body (Some held)) next (Some link) (Some further) out longer (used_in (Some link)) (server_in server seen) moment seen.now closed seen.closed
-      (open_used server link is_open.is_link.server is_open.is_link.closed) now shut it)
-      (beside_for terms flow seen up sent.up old reads none (body_gone terms.place at flow server most up seen gone)) gone)
-
-  down_passed : (flow : Flow) (server : ℕ) (up : Sending) (is_sent : Response) (side middle : Option Link) → GoesOnUp terms flow seen up sent.up old → NoMoreUp up old →
-      IsGone terms.place (busy at flow (coming_down server (sent_of up))) seen → closed ≡ seen.closed →
-      IsOpen (ReadsDown flow server seen (Some is_sent) sent.text) side → DownPassed at new moment (used_in side) closed flow server up is_sent next side middle out longer →
-      PassedOn middle (busy at flow (coming_down server (sent_of up)))
-  down_passed flow server up is_sent None middle reads none gone shut is_open it = absurd is_open
-  down_passed flow server up is_sent (Some link) None reads none gone shut is_open it = absurd it.read
-  down_passed flow server up is_sent (Some link) (Some further) reads none gone shut is_open it =
-      let stage : Stage = busy at flow (coming_down server (sent_of up)) in
-      let here = passed_in at new (ready.ComingDown flow server up is_sent) next (Some link) (Some further) out longer (used_in (Some link)) (server_in server seen) moment seen.now closed seen.closed
+  body_passed flow server up most body held (Some link) middle reads none gone shut is_open it =
+      let here : HeldPassed terms.place at new seen.now (server_in server seen) seen.closed flow server up most body held next (Some link) middle out longer =
+      passed_in terms.place at new (ready.ResponseBody flow server up most body (Some held)) next (Some link) middle out longer (used_in (Some link)) (server_in server seen) moment seen.now closed seen.closed
       (open_used server link is_open.is_link.server is_open.is_link.closed) now shut it in
-      goes_to_there terms stage seen new (requests_behind (stage_of new next) old) (side_behind false (stage_of new next) (Some further)) next (sent_on stage sent) out longer
-      (down_at terms at new seen old next out longer up sent.up flow server is_sent sent.text link further is_open here.got here.text here.read here.went
-      (beside_for terms flow seen up sent.up old reads none (down_gone terms.place at flow server up seen gone)))
+      body_from flow server up most body held link middle here.heard here.got here.body here.more
+      (beside_for terms flow seen up sent.up old reads none (body_gone terms.place at flow server most up seen gone)) gone is_open here.same here.read here.went
+
+  down_from : (flow : Flow) (server : ℕ) (up : Sending) (sends : Response) (link : Link) (middle heard : Option Link) (got : Progress) (text : List ℕ) → Beside terms flow seen up sent.up old →
+      ReadsDown flow server seen (Some sends) sent.text link → StaysOpen (SaysMore got [] text) (Some link) heard →
+      WentDown terms.place at new seen.now (server_in server seen) seen.closed flow server up sends got text next heard middle out longer → PassedOn middle (busy at flow (coming_down server (sent_of up)))
+  down_from flow server up sends link middle None got text beside reads reading went = absurd reading
+  down_from flow server up sends link middle (Some further) got text beside reads reading went =
+      let stage : Stage = busy at flow (coming_down server (sent_of up)) in
+      goes_to_there terms stage seen new (requests_behind (stage_of new next) old) (side_behind false (stage_of new next) middle) next (sent_on stage sent) out longer
+      (down_at terms at new seen old next out longer up sent.up middle flow server sends sent.text link further reads got text reading went beside)
+
+  down_passed : (flow : Flow) (server : ℕ) (up : Sending) (sends : Response) (side middle : Option Link) → GoesOnUp terms flow seen up sent.up old → NoMoreUp up old →
+      IsGone terms.place (busy at flow (coming_down server (sent_of up))) seen → closed ≡ seen.closed →
+      IsOpen (ReadsDown flow server seen (Some sends) sent.text) side → DownPassed terms.place at new moment (used_in side) closed flow server up sends next side middle out longer →
+      PassedOn middle (busy at flow (coming_down server (sent_of up)))
+  down_passed flow server up sends None middle reads none gone shut is_open it = absurd is_open
+  down_passed flow server up sends (Some link) middle reads none gone shut is_open it =
+      let here : DownPassed terms.place at new seen.now (server_in server seen) seen.closed flow server up sends next (Some link) middle out longer =
+      passed_in terms.place at new (ready.ComingDown flow server up sends) next (Some link) middle out longer (used_in (Some link)) (server_in server seen) moment seen.now closed seen.closed
+      (open_used server link is_open.is_link.server is_open.is_link.closed) now shut it in
+      down_from flow server up sends link middle here.heard here.got here.text (beside_for terms flow seen up sent.up old reads none (down_gone terms.place at flow server up seen gone)) is_open here.read here.went
 
   passes_by : (looked : Wanted) (side middle : Option Link) → HasRequest terms (stage_of at looked) seen sent.up looked old → HasNoMoreUp looked old → IsGone terms.place (stage_of at looked) seen →
       HasSide (stage_of at looked) seen sent looked side → HasPlace (stage_of at looked) seen at closed →
-      is_passing looked ≡ true → Passed at new moment (used_in side) closed looked next side middle out longer → PassedOn middle (stage_of at looked)
+      is_passing looked ≡ true → Passed terms.place at new moment (used_in side) closed looked next side middle out longer → PassedOn middle (stage_of at looked)
   passes_by (ready.ResponseBody flow server up most body (Some held)) side middle reads none gone is_open place passing it = body_passed flow server up most body held side middle reads none gone place.client is_open it
   passes_by (ready.ComingDown flow server up is_sent) side middle reads none gone is_open place passing it = down_passed flow server up is_sent side middle reads none gone place.client is_open it
   passes_by (ready.ResponseBody flow server up most body None) side middle reads none gone is_open place passing it = absurd (let no : false ≡ true = passing in cc)
@@ -567,7 +630,7 @@ module _ (terms : Terms) (at new : At) (seen : Sight) (old : State) (moment : �
 -- What is given is what is owed where it comes down, with what is sent of where it leads, and the flow is there.
 pub passes_follow : (made : Terms) (at new : At) (seen : Sight) (old later : State) (side middle : Option Link) (moment : ℕ) (closed : Bool) (out longer : List Command) (sent : SentOn) →
     moment ≡ seen.now → (stage : Stage) (looked next : Wanted) → IsReady made at old side looked stage seen sent → HasPlace stage seen at closed → IsGone made.place stage seen → HasNoMoreUp looked old → is_passing looked ≡ true →
-    Passed at new moment (used_in side) closed looked next side middle out longer → later ≡ requests_behind (stage_of new next) old →
+    Passed made.place at new moment (used_in side) closed looked next side middle out longer → later ≡ requests_behind (stage_of new next) old →
     CameTo made stage seen new later (side_behind false (stage_of new next) middle) next (sent_on stage sent) out longer
 passes_follow made at new seen old later side middle moment closed out longer sent now stage looked next is place gone none passing it follows =
     let same : stage_of at looked ≡ stage = is.is_stage in

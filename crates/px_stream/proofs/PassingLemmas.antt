@@ -1,10 +1,11 @@
 -- What is passed where a body may be streamed, or is.
-use Rattle.std.proofs.Common.{◌≡◌, ℕ, ◌+◌, Bool, true, false, List, [], ◌++◌, length, Option, Some, None, Result, Ok, Err, refl, ap, sym, subst}
+use Rattle.std.proofs.Common.{◌≡◌, ℕ, ◌+◌, Bool, true, false, List, [], ◌++◌, ◌&&◌, length, Option, Some, None, Result, Ok, Err, refl, ap, sym, subst}
 use Rattle.std.specs.Prelude.{IfOk, OnOk}
 use Rattle.px_event.specs.declared.command.Command.{Command}
 use Rattle.px_exchange.specs.declared.body.Progress.{Progress}
 use Rattle.px_exchange.specs.declared.ending.Used.{Used}
-use Rattle.px_chain.specs.Stages.{At, idle, over, unparked}
+use Rattle.px_exchange.specs.declared.place.Place.{Place}
+use Rattle.px_chain.specs.Stages.{At, idle, over}
 use Rattle.px_message.specs.declared.flow.Flow.{Flow}
 use Rattle.px_message.specs.declared.response.Response.{Response}
 use Rattle.px_read.specs.Reader.{State}
@@ -12,6 +13,7 @@ use Rattle.px_exchange.specs.declared.body.Progress.TheVariants as progress
 use Rattle.px_exchange.specs.Bodies.{IsReading}
 use Rattle.px_chain.specs.Chain.{behind_flow, sequence}
 use Rattle.px_chain.specs.Coming.{streaming}
+use Rattle.px_chain.specs.Keeping.{parks}
 use Rattle.px_stream.specs.declared.coming.Held.{Held}
 use Rattle.px_stream.specs.declared.going.Sending.{Sending}
 use Rattle.px_stream.specs.Comings.{CollectsHeld, framed_by}
@@ -21,69 +23,74 @@ use Rattle.px_stream.specs.declared.passing.Undecided.{Undecided}
 use Rattle.px_stream.specs.declared.phase.Wanted.{Wanted}
 use Rattle.px_stream.specs.declared.phase.Wanted.TheVariants as ready
 use Rattle.px_stream.specs.declared.stream.Stream.{Stream}
-use Rattle.px_stream.specs.Passes.{DownLeads, HeldPassed, HeldWent, HoldsMore, MayPass, Passed, PassedBy, PassesOnce, SaysMore, StartedDown, ended_leads, is_passing, stays_behind, streams_by}
+use Rattle.px_stream.specs.Passes.{DownLeads, HeldPassed, HeldWent, HoldsMore, MayPass, Passed, PassedBy, PassesOnce, SaysMore, SideCame, StartedDown, ended_leads, is_passing, stays_behind, streams_by}
 use Rattle.px_stream.specs.Stands.{IsOpen, StaysOpen, stage_of, used_in}
-use Rattle.px_stream.specs.Turns.{requests_behind, side_behind}
+use Rattle.px_stream.specs.Turns.{keeps_on, requests_behind, side_behind}
 
 -- the same, of which more was read
 abbrev pub IsOf : Undecided → Undecided → Type 0
 IsOf old now = now ≡ record old { body = now.body; held = record old.held { said = now.held.said } }
 
-module _ (at new : At) (moment : ℕ) (used : Used) (closed : Bool) (old now : Undecided) (got : Progress) (side later : Option Link) (out longer : List Command)
-    (same : IsOf old now) (read : StaysOpen (HoldsMore got old.body old.held.said.items now.body now.held.said.items) side later) where
+module _ (place : Place) (at new : At) (moment : ℕ) (used : Used) (closed : Bool) (old now : Undecided) (got : Progress) (side heard later : Option Link) (out longer : List Command)
+    (same : IsOf old now) (read : StaysOpen (HoldsMore got old.body old.held.said.items now.body now.held.said.items) side heard) where
   judged : (b : Bool) → streams_by now.flow now.flow.response now.held.read now.most (length now.body) ≡ b →
       streams_by old.flow old.flow.response old.held.read old.most (length now.body) ≡ b
   judged b is = let P : Undecided → Type 0 = λ u. streams_by u.flow u.flow.response u.held.read u.most (length now.body) ≡ b in subst P same is
 
   -- where it is streamed
   pub held_started : {E : Type 0} (result : Result Wanted E) → streams_by now.flow now.flow.response now.held.read now.most (length now.body) ≡ true →
-      IfOk result (λ next. StartedDown at new moment used closed now.flow now.server now.up now.held.read got now.held.said.items next out longer) →
-      IfOk result (λ next. HeldPassed at new moment used closed old.flow old.server old.up old.most old.body old.held next side later out longer)
+      IfOk result (λ next. StartedDown place at new moment used closed now.flow now.server now.up now.held.read got now.held.said.items next heard later out longer) →
+      IfOk result (λ next. HeldPassed place at new moment used closed old.flow old.server old.up old.most old.body old.held next side later out longer)
   held_started (Ok next) streams started =
-      let P : Undecided → Type 0 = λ u. StartedDown at new moment used closed u.flow u.server u.up now.held.read got now.held.said.items next out longer in
-      let Q : Bool → Type 0 = λ b. HeldWent b at new moment used closed old.flow old.server old.up old.most now.body now.held got next out longer in record {
+      let P : Undecided → Type 0 = λ u. StartedDown place at new moment used closed u.flow u.server u.up now.held.read got now.held.said.items next heard later out longer in
+      let Q : Bool → Type 0 = λ b. HeldWent b place at new moment used closed old.flow old.server old.up old.most now.body now.held got next heard later out longer in record {
         got = got;
         body = now.body;
         more = now.held;
         same = ap (λ (u : Undecided). u.held.read) same;
+        heard = heard;
         read = read;
         went = subst Q (sym (judged true streams)) (subst P same started);
       }
   held_started (Err e) streams started = tt
 
 -- and where it is not, so far
-pub held_on : (at : At) (moment : ℕ) (used : Used) (closed : Bool) (old now : Undecided) (got : Progress) (side later : Option Link) (out : List Command) → IsOf old now →
+pub held_on : (place : Place) (at : At) (moment : ℕ) (used : Used) (closed : Bool) (old now : Undecided) (got : Progress) (side later : Option Link) (out : List Command) → IsOf old now →
     StaysOpen (HoldsMore got old.body old.held.said.items now.body now.held.said.items) side later → streams_by now.flow now.flow.response now.held.read now.most (length now.body) ≡ false →
-    HeldPassed at at moment used closed old.flow old.server old.up old.most old.body old.held (ready.ResponseBody now.flow now.server now.up now.most now.body (Some now.held)) side later out out
-held_on at moment used closed old now got side later out same read streams =
+    HeldPassed place at at moment used closed old.flow old.server old.up old.most old.body old.held (ready.ResponseBody now.flow now.server now.up now.most now.body (Some now.held)) side later out out
+held_on place at moment used closed old now got side later out same read streams =
     let next : Wanted = ready.ResponseBody now.flow now.server now.up now.most now.body (Some now.held) in
-    let Q : Bool → Type 0 = λ b. HeldWent b at at moment used closed old.flow old.server old.up old.most now.body now.held got next out out in record {
+    let Q : Bool → Type 0 = λ b. HeldWent b place at at moment used closed old.flow old.server old.up old.most now.body now.held got next later later out out in record {
       got = got;
       body = now.body;
       more = now.held;
       same = ap (λ (u : Undecided). u.held.read) same;
+      heard = later;
       read = read;
-      went = subst Q (sym (judged at at moment used closed old now got side later out out same read false streams)) (record {
-        same = refl;
-        is_there = ap (λ (u : Undecided). ready.ResponseBody u.flow u.server u.up u.most now.body (Some now.held)) same;
-        gives = refl;
-      });
+      went = subst Q (sym (judged place at at moment used closed old now got side later later out out same read false streams)) (
+        record {
+          same = refl;
+          is_there = ap (λ (u : Undecided). ready.ResponseBody u.flow u.server u.up u.most now.body (Some now.held)) same;
+          gives = refl;
+        },
+        refl,
+      );
     }
 
 -- A stream passed, and its readers followed.
 module _ (before after : Stream) (moment now : ℕ) (used : Used) (closed : Bool) (looked there : Wanted) (at : At) (middle : Option Link) (out longer : List Command)
     (is_now : now ≡ moment) (is_used : used ≡ used_in before.side) (is_closed : closed ≡ before.client_closed) (passing : is_passing looked ≡ true)
-    (passed : Passed before.at at now used closed looked there before.side middle out longer) where
-  passed_here : Passed before.at at moment (used_in before.side) before.client_closed looked there before.side middle out longer
+    (passed : Passed before.terms.place before.at at now used closed looked there before.side middle out longer) where
+  passed_here : Passed before.terms.place before.at at moment (used_in before.side) before.client_closed looked there before.side middle out longer
   passed_here =
-      let P : ℕ → Used → Bool → Type 0 = λ m u c. Passed before.at at m u c looked there before.side middle out longer in
+      let P : ℕ → Used → Bool → Type 0 = λ m u c. Passed before.terms.place before.at at m u c looked there before.side middle out longer in
       subst (λ m. P m (used_in before.side) before.client_closed) is_now (subst (λ u. P now u before.client_closed) is_used (subst (λ c. P now used c) is_closed passed))
 
   pub passes_by : {E : Type 0} (result : Result Wanted E) → IfOk result (λ next. next ≡ there) → OnOk result (after.terms ≡ before.terms) → OnOk result (after.at ≡ at) →
       OnOk result (after.client_closed ≡ before.client_closed) → OnOk result (after.requests ≡ requests_behind (stage_of at there) before.requests) →
       OnOk result (after.side ≡ side_behind false (stage_of at there) middle) → IfOk result (λ next. PassesOnce before after moment looked next out longer)
   passes_by (Ok next) is terms is_at client requests side =
-      let P : At → Wanted → Type 0 = λ a n. Passed before.at a moment (used_in before.side) before.client_closed looked n before.side middle out longer
+      let P : At → Wanted → Type 0 = λ a n. Passed before.terms.place before.at a moment (used_in before.side) before.client_closed looked n before.side middle out longer
       × (after.requests ≡ requests_behind (stage_of a n) before.requests) × (after.side ≡ side_behind false (stage_of a n) middle) in
       let Q : Bool → Type 0 = λ b. PassedBy b before after moment looked next middle out longer in record {
         terms = terms;
@@ -125,9 +132,11 @@ may_behind : (stays : Bool) (at there : At) (next : Wanted) (requests : State) (
 may_behind true at there next requests side is = may_idle at next requests side (record there { flow = there.flow + 1 }) is
 may_behind false at there next requests side is = may_over at next requests side there is
 
-may_ended : (at new : At) (flow : Flow) (up : Sending) (o : Option Response) (sent : Response) (next : Wanted) (requests : State) (side : Option Link) → stage_of new next ≡ ended_leads at flow up o sent → MayLook next requests side
-may_ended at new flow up None sent next requests side is = may_over new next requests side at is
-may_ended at new flow up (Some answer) sent next requests side is = may_behind (stays_behind at.flow flow up answer sent) new (unparked at) next requests side is
+may_ended : (place : Place) (at new : At) (flow : Flow) (server : ℕ) (up : Sending) (o : Option Response) (sent : Response) (keeps : Bool) (next : Wanted) (requests : State) (side : Option Link) →
+    stage_of new next ≡ ended_leads place at flow server up o sent keeps → MayLook next requests side
+may_ended place at new flow server up None sent keeps next requests side is = may_over new next requests side at is
+may_ended place at new flow server up (Some answer) sent keeps next requests side is =
+    may_behind (stays_behind at.flow flow up answer sent) new (parks (stays_behind at.flow flow up answer sent && keeps) place at flow.request server) next requests side is
 
 abbrev Reading : Option Link → Type 0
 Reading side = IsOpen (λ link. IsReading link.responses) side
@@ -147,33 +156,42 @@ collected old new content said body longer held is = record {
   reads = held.reads is.message is.told is.fed is.closed is.reads;
 }
 
-may_down : (got : Progress) (at new : At) (flow : Flow) (server : ℕ) (up : Sending) (sent : Response) (next : Wanted) (requests : State) (middle : Option Link) → DownLeads got at new flow server up sent next → Reading middle →
-    MayLook next requests (side_behind false (stage_of new next) middle)
-may_down (progress.Whole trailers) at new flow server up sent next requests middle leads is = may_ended at new flow up flow.response sent next requests (side_behind false (stage_of new next) middle) leads
-may_down (progress.Bad fault) at new flow server up sent next requests middle leads is =
-    let P : Wanted → Type 0 = λ n. MayLook n requests (side_behind false (stage_of new n) middle) in subst P (sym leads.1) is
-may_down progress.Missing at new flow server up sent next requests middle leads is =
-    let P : Wanted → Type 0 = λ n. MayLook n requests (side_behind false (stage_of new n) middle) in subst P (sym leads.1) is
+-- what comes down goes on
+on_down : (at new : At) (flow : Flow) (server : ℕ) (up : Sending) (sent : Response) (next : Wanted) (requests : State) (heard middle : Option Link) → (new ≡ at) × (next ≡ ready.ComingDown flow server up sent) →
+    SideCame next heard middle → Reading heard → MayLook next requests (side_behind false (stage_of new next) middle)
+on_down at new flow server up sent next requests heard middle leads came is =
+    let P : Wanted → Type 0 = λ n. SideCame n heard middle → MayLook n requests (side_behind false (stage_of new n) middle) in
+    subst P (sym leads.1) (λ (same : middle ≡ heard). subst Reading (sym same) is) came
 
-may_held : (b : Bool) (at new : At) (moment : ℕ) (used : Used) (closed : Bool) (flow : Flow) (server : ℕ) (up : Sending) (most : Option ℕ) (body : List ℕ) (held : Held) (got : Progress) (next : Wanted) (out longer : List Command)
-    (requests : State) (middle : Option Link) → HeldWent b at new moment used closed flow server up most body held got next out longer → Reading middle → MayLook next requests (side_behind false (stage_of new next) middle)
-may_held true at new moment used closed flow server up most body held got next out longer requests middle went is =
-    may_down got at new (streaming flow) server up (framed_by held.read went.response) next requests middle went.went.leads is
-may_held false at new moment used closed flow server up most body held got next out longer requests middle went is =
-    let P : Wanted → Type 0 = λ n. MayLook n requests (side_behind false (stage_of new n) middle) in subst P (sym went.is_there) is
+may_down : (got : Progress) (place : Place) (at new : At) (flow : Flow) (server : ℕ) (up : Sending) (sent : Response) (keeps : Bool) (next : Wanted) (requests : State) (heard middle : Option Link) →
+    DownLeads got place at new flow server up sent keeps next → SideCame next heard middle → Reading heard → MayLook next requests (side_behind false (stage_of new next) middle)
+may_down (progress.Whole trailers) place at new flow server up sent keeps next requests heard middle leads came is =
+    may_ended place at new flow server up flow.response sent keeps next requests (side_behind false (stage_of new next) middle) leads
+may_down (progress.Bad fault) place at new flow server up sent keeps next requests heard middle leads came is = on_down at new flow server up sent next requests heard middle leads came is
+may_down progress.Missing place at new flow server up sent keeps next requests heard middle leads came is = on_down at new flow server up sent next requests heard middle leads came is
+
+may_held : (b : Bool) (place : Place) (at new : At) (moment : ℕ) (used : Used) (closed : Bool) (flow : Flow) (server : ℕ) (up : Sending) (most : Option ℕ) (body : List ℕ) (held : Held) (got : Progress) (next : Wanted)
+    (out longer : List Command) (requests : State) (heard middle : Option Link) → HeldWent b place at new moment used closed flow server up most body held got next heard middle out longer → Reading heard →
+    MayLook next requests (side_behind false (stage_of new next) middle)
+may_held true place at new moment used closed flow server up most body held got next out longer requests heard middle went is =
+    let sent : Response = framed_by held.read went.response in
+    may_down got place at new (streaming flow) server up sent (keeps_on flow.request heard) next requests heard middle went.went.leads went.went.is_side is
+may_held false place at new moment used closed flow server up most body held got next out longer requests heard middle (went, same) is =
+    let P : Wanted → Type 0 = λ n. MayLook n requests (side_behind false (stage_of new n) middle) in subst P (sym went.is_there) (subst Reading (sym same) is)
 
 module _ (before after : Stream) (moment : ℕ) (next : Wanted) (middle : Option Link) (out longer : List Command) (requests : State) where
   may_passed : (looked : Wanted) → is_passing looked ≡ true → MayPass before.at looked before.side →
-      Passed before.at after.at moment (used_in before.side) before.client_closed looked next before.side middle out longer → MayLook next requests (side_behind false (stage_of after.at next) middle)
+      Passed before.terms.place before.at after.at moment (used_in before.side) before.client_closed looked next before.side middle out longer → MayLook next requests (side_behind false (stage_of after.at next) middle)
   may_passed (ready.ResponseBody flow server up most body (Some held)) passing may passed =
-      may_held (streams_by flow flow.response held.read most (length passed.body)) before.at after.at moment (used_in before.side) before.client_closed flow server up most passed.body passed.more passed.got next out longer requests middle
+      may_held (streams_by flow flow.response held.read most (length passed.body)) before.terms.place before.at after.at moment (used_in before.side) before.client_closed flow server up most passed.body passed.more passed.got next out longer requests
+      passed.heard middle
       passed.went
       (open_on (HoldsMore passed.got body held.said.items passed.body passed.more.said.items)
-      (λ old new more is. collected old.responses new.responses body held.said.items passed.body passed.more.said.items more.read.over is) before.side middle passed.read may.reads)
+      (λ old new more is. collected old.responses new.responses body held.said.items passed.body passed.more.said.items more.read.over is) before.side passed.heard passed.read may.reads)
   may_passed (ready.ComingDown flow server up sent) passing may passed =
-      may_down passed.got before.at after.at flow server up sent next requests middle passed.went.leads
+      may_down passed.got before.terms.place before.at after.at flow server up sent (keeps_on flow.request passed.heard) next requests passed.heard middle passed.went.leads passed.went.is_side
       (open_on (SaysMore passed.got [] passed.text)
-      (λ old new more is. collected old.responses new.responses [] [] more.read.body passed.text more.read.held.over is) before.side middle passed.read may.reads)
+      (λ old new more is. collected old.responses new.responses [] [] more.read.body passed.text more.read.held.over is) before.side passed.heard passed.read may.reads)
   may_passed (ready.ResponseBody flow server up most body None) passing may passed = absurd (let no : false ≡ true = passing in cc)
   may_passed ready.Idle passing may passed = absurd (let no : false ≡ true = passing in cc)
   may_passed (ready.RequestBody flow given most body held) passing may passed = absurd (let no : false ≡ true = passing in cc)

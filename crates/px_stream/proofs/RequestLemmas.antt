@@ -6,7 +6,8 @@ use Rattle.px_message.specs.declared.response.Response.{Response}
 use Rattle.px_event.specs.declared.command.Command.{Command}
 use Rattle.px_read.specs.Reader.{State}
 use Rattle.px_exchange.specs.declared.terms.Terms.{Terms}
-use Rattle.px_chain.specs.Chain.{begin_up, begins_going, end_up, pass_going, sight_begun, sight_ended}
+use Rattle.px_chain.specs.Chain.{begin_up, end_up, pass_going, sight_begun, sight_ended}
+use Rattle.px_chain.specs.Going.{goes_up}
 use Rattle.px_chain.specs.Sights.{Sight}
 use Rattle.px_chain.specs.Stages.{At, Stage, busy, request_body}
 use Rattle.px_stream.specs.declared.going.HeldRequest.{HeldRequest}
@@ -15,9 +16,9 @@ use Rattle.px_stream.specs.declared.link.Link.{Link}
 use Rattle.px_stream.specs.declared.phase.Wanted.{Wanted}
 use Rattle.px_stream.specs.declared.phase.Wanted.TheVariants as ready
 use Rattle.px_stream.specs.Goings.{goes_up_with}
-use Rattle.px_stream.specs.GoingUp.{GoesUp, GoneTo, begins_with, is_rising}
+use Rattle.px_stream.specs.GoingUp.{GoesUp, GoneTo, is_rising}
 use Rattle.px_stream.specs.Stands.{HasPlace, HasRequest, HasSide, IsReady, SentOn, sent_on, stage_of}
-use Rattle.px_stream.proofs.BegunLemmas.{begins_as, begins_by}
+use Rattle.px_stream.proofs.BegunLemmas.{begins_by, judged}
 use Rattle.px_stream.proofs.GoneLemmas.{GoesBy, body_rises, down_rises, head_rises, rises_by}
 use Rattle.px_stream.proofs.WentUpLemmas.{up_to}
 
@@ -43,12 +44,12 @@ module _ (terms : Terms) (at now : At) (seen : Sight) (old new : State) (side la
       HasSide (stage_of at (ready.RequestBody flow given most body (Some held))) seen sent (ready.RequestBody flow given most body (Some held)) side →
       GoesUp terms.place at now moment (ready.RequestBody flow given most body (Some held)) next old new side later out longer → To (busy at flow (request_body given most))
   body_goes flow None most body held reads has goes =
-      let begins : Bool = begins_with terms.place at flow side (goes_up_with held.read most (length goes.body)) in
-      let is : begins_going terms.place at flow most seen ≡ begins =
-      begins_as terms at now flow most seen held body old new side later next out longer reads has goes.got goes.body goes.more goes.same goes.read
-      ∙ ap (λ (r : Request). begins_with terms.place at flow side (goes_up_with r most (length goes.body))) goes.same in
+      let begins : Bool = goes_up_with held.read most (length goes.body) in
+      let is : goes_up most seen ≡ begins =
+      judged terms at now flow most seen held body old new side later next out longer reads has goes.got goes.body goes.more goes.same goes.read
+      ∙ ap (λ (r : Request). goes_up_with r most (length goes.body)) goes.same in
       gone_to terms (busy at flow (request_body None most)) seen now new later next [] out longer
-      (subst (λ b. GoesBy terms (end_up terms (pass_going b terms.place at flow most) seen) (sight_ended (pass_going b terms.place at flow most) seen) now new later next [] out longer) (sym is)
+      (subst (λ b. GoesBy terms (end_up terms (pass_going b terms.place at flow most seen) seen) (sight_ended (pass_going b terms.place at flow most seen) seen) now new later next [] out longer) (sym is)
       (begins_by terms at now flow most seen held body old new side later next out longer reads has goes.got goes.body goes.more goes.same goes.read begins moment at_now is goes.went))
   body_goes flow (Some given) most body held reads has goes = absurd (let no : Some given ≡ None = reads.holds.0 in cc)
 

@@ -32,7 +32,7 @@ use Rattle.px_stream.specs.declared.stream.Stream.{Stream}
 use Rattle.px_stream.specs.Anywhere.{IsInSequence}
 use Rattle.px_stream.specs.Goings.{sent_by, sent_of}
 use Rattle.px_stream.specs.Rests.{BehindSent, ClientAsked, ClientBehind, ClientLast, ClientWaiting, IsUnread, IsUnreadAnswer, LeavesRests, ServerAsked, ServerLast, ServerWaiting, flow_last}
-use Rattle.px_stream.specs.Stands.{AskedRequest, AskedSide, AskedUp, GoesOnUp, HasRequest, HasSide, IsLast, IsLastAt, IsLastFor, IsLink, IsOpen, LinkKeeps, PhaseAt, ReadsDown, ReadsFinal, ReadsGoing, ReadsReturn, SentOn, WaitsUp, asked_in, bare, going_asked, is_last, sent_asked, sent_at, stage_of, up_asked}
+use Rattle.px_stream.specs.Stands.{AskedRequest, AskedSide, AskedUp, GoesOnUp, HasRequest, HasSide, IsLast, IsLastAt, IsLastFor, IsLink, IsOpen, LinkEnds, LinkKeeps, PhaseAt, ReadsDown, ReadsFinal, ReadsGoing, ReadsReturn, SentOn, WaitsUp, asked_in, bare, going_asked, is_last, sent_asked, sent_at, stage_of, up_asked}
 use Rattle.px_stream.specs.Tells.{connected_by, ended_at, outcome_at, outcome_in, phase_flow, side_rest, uses_side}
 use Rattle.px_stream.specs.Turns.{is_dial}
 use Rattle.px_stream.proofs.AskLemmas.{dial_asked, uses_asked, uses_of}
@@ -101,6 +101,10 @@ kept_waits : (server : ℕ) (bytes : List ℕ) (shut : Bool) (s : Option Link) �
 kept_waits server bytes shut None is = absurd is
 kept_waits server bytes shut (Some link) is = is.rest
 
+ends_waits : (message : Request) (server : ℕ) (bytes : List ℕ) (seen : Sight) (s : Option Link) → IsOpen (LinkEnds message server bytes seen) s → side_rest true s ≡ bytes
+ends_waits message server bytes seen None is = absurd is
+ends_waits message server bytes seen (Some link) is = is.keeps.rest
+
 -- how the request stands is told by what was asked: by a dial, or by anything else
 dial_behind : (terms : Terms) (flow : Flow) (seen : Sight) (requests : State) (sent : Sent) (found : Asked) → is_dial found ≡ true → sent_asked found ≡ sent → WaitsUp terms flow seen (going_asked found) requests →
     BehindSent sent seen requests.rest
@@ -153,7 +157,7 @@ module _ (terms : Terms) (requests : State) (side : Option Link) (found : Asked)
   server_asked (busy at flow (request_body given most)) is_asked is = refl
   server_asked (busy at flow (connection how)) is_asked is = refl
   server_asked (busy at flow (response_head server how)) is_asked is = final_waits flow.request server seen side is
-  server_asked (busy at flow (response_body server how most)) is_asked is = kept_waits server _ seen.shut side is
+  server_asked (busy at flow (response_body server how most)) is_asked is = ends_waits flow.request server _ seen side is
   server_asked (busy at flow (coming_down server how)) is_asked is = absurd (let no : None ≡ Some (bare found) = is_asked in cc)
   server_asked (busy at flow (upgraded server)) is_asked is = refl
   server_asked (busy at flow given_head) is_asked is = refl
@@ -173,7 +177,7 @@ module _ (terms : Terms) (seen : Sight) (requests : State) (side : Option Link) 
   abbrev rest_in : Wanted → List ℕ
   rest_in looked = side_rest (uses_side (phase.Ready looked)) side
 
-  leaves_idle : (at : At) (connects : Option Connect) → connect_in terms.place (request_in seen) ≡ connects → IsLastAt connects seen requests last → Leaves terms (idle at) seen requests side last
+  leaves_idle : (at : At) (connects : Option Connect) → connect_in terms.place (request_in seen) ≡ connects → IsLastAt at connects seen requests side last → Leaves terms (idle at) seen requests side last
   leaves_idle at None is there = record {
     client = subst (λ c. ClientBehind c seen requests.rest) (sym is) tt;
     server = ap rest_in there;

@@ -12,7 +12,7 @@ use Rattle.px_exchange.specs.Bodies.{IsReading}
 use Rattle.px_exchange.specs.Requests.{is_head}
 use Rattle.px_chain.specs.Chain.{parked_for}
 use Rattle.px_chain.specs.Going.{sending_on}
-use Rattle.px_chain.specs.Stages.{At, Parked}
+use Rattle.px_chain.specs.Stages.{At}
 use Rattle.px_stream.specs.declared.going.HeldRequest.{HeldRequest}
 use Rattle.px_stream.specs.declared.going.Sending.{Sending}
 use Rattle.px_stream.specs.declared.going.Sending.TheVariants as sending
@@ -21,13 +21,13 @@ use Rattle.px_stream.specs.declared.phase.Wanted.{Wanted}
 use Rattle.px_stream.specs.declared.phase.Wanted.TheVariants as ready
 use Rattle.px_stream.specs.declared.stream.Stream.{Stream}
 use Rattle.px_stream.specs.Comings.{CollectsHeld}
-use Rattle.px_stream.specs.GoingUp.{GoesUp, GoesUpOnce, HeldUpWent, LedUp, MayGoUp, MayTakeSide, ParkedOpen, RaisedBy, begins_with, is_rising, up_flow}
+use Rattle.px_stream.specs.GoingUp.{GoesUp, GoesUpOnce, HeldUpWent, LedUp, MayGoUp, RaisedBy, is_rising, up_flow}
 use Rattle.px_stream.specs.Goings.{goes_up_with}
 use Rattle.px_stream.specs.Looks.{MayLook}
 use Rattle.px_stream.specs.Passes.{Advances, MayPass, MayRead, PassedBy, is_passing}
 use Rattle.px_stream.specs.Responses.{IsKept}
 use Rattle.px_stream.specs.Stands.{IsOpen, IsSome}
-use Rattle.px_stream.specs.Turns.{LooksOnce, opened_side}
+use Rattle.px_stream.specs.Turns.{LooksOnce, opened_side, with_open}
 use Rattle.px_stream.proofs.UnreadLemmas.{unread_reads}
 
 -- it may pass, and look where nothing is passed
@@ -67,19 +67,20 @@ opened_kept server asked_head (Some link) is = record {
   keeps = unread_reads asked_head link.server link.responses.rest link.closed;
 }
 
-parked_there : (place : Place) (message : Request) (parked : Option Parked) (server : ℕ) (side : Option Link) → parked_for place message parked ≡ Some server → ParkedOpen parked side → IsSome side
-parked_there place message None server side is may = absurd (let no : None ≡ Some server = is in cc)
-parked_there place message (Some parked) server side is may = may
+-- it is open where the request goes there
+parked_there : (place : Place) (message : Request) (at : At) (server : ℕ) (side : Option Link) → parked_for place message (with_open at side).parked ≡ Some server → IsSome side
+parked_there place message at server None is = absurd (let no : None ≡ Some server = is in cc)
+parked_there place message at server (Some link) is = tt
 
 led_on : (o : Option ℕ) (place : Place) (at now : At) (moment : ℕ) (flow : Flow) (message sent : Request) (got : Progress) (text : List ℕ) (next : Wanted) (requests : State) (side later : Option Link) (out longer : List Command) →
-    parked_for place message at.parked ≡ o → ParkedOpen at.parked side → LedUp o place at now moment flow sent got text next side later out longer → MayGoOn now next requests later
-led_on None place at now moment flow message sent got text next requests side later out longer is may led =
+    parked_for place message (with_open at side).parked ≡ o → LedUp o place at now moment flow sent got text next side later out longer → MayGoOn now next requests later
+led_on None place at now moment flow message sent got text next requests side later out longer is led =
     let P : Wanted → Type 0 = λ n. MayGoOn now n requests later in subst P (sym led.is_there) (record { passes = tt; looks = λ none. tt })
-led_on (Some server) place at now moment flow message sent got text next requests side later out longer is may led =
+led_on (Some server) place at now moment flow message sent got text next requests side later out longer is led =
     let P : Wanted → Type 0 = λ n. MayGoOn now n requests later in
     subst P (sym led.is_there) (record {
       passes = tt;
-      looks = λ none. subst (IsOpen IsKept) (sym led.opens) (opened_kept server (is_head flow.request.method) side (parked_there place message at.parked server side is may));
+      looks = λ none. subst (IsOpen IsKept) (sym led.opens) (opened_kept server (is_head flow.request.method) side (parked_there place message at server side is));
     })
 
 collected : (old new : State) (content said body longer : List ℕ) → CollectsHeld old content said new body longer → IsReading old → IsReading new
@@ -92,11 +93,11 @@ collected old new content said body longer held is = record {
 }
 
 held_on : (b : Bool) (place : Place) (at now : At) (moment : ℕ) (flow : Flow) (given : Option Response) (most : Option ℕ) (body : List ℕ) (held : HeldRequest) (got : Progress) (next : Wanted) (requests : State)
-    (side later : Option Link) (out longer : List Command) → ParkedOpen at.parked side → IsReading requests →
+    (side later : Option Link) (out longer : List Command) → IsReading requests →
     HeldUpWent b place at now moment flow given most body held got next side later out longer → MayGoOn now next requests later
-held_on true place at now moment flow given most body held got next requests side later out longer may reading went =
-    led_on (parked_for place flow.request at.parked) place at now moment (sending_on flow) flow.request went.sent got _ next requests side later out longer refl may went.led
-held_on false place at now moment flow given most body held got next requests side later out longer may reading went =
+held_on true place at now moment flow given most body held got next requests side later out longer reading went =
+    led_on (parked_for place flow.request (with_open at side).parked) place at now moment (sending_on flow) flow.request went.sent got _ next requests side later out longer refl went.led
+held_on false place at now moment flow given most body held got next requests side later out longer reading went =
     let P : Wanted → Type 0 = λ n. MayGoOn now n requests later in subst P (sym went.is_there) (record { passes = tt; looks = λ none. reading })
 
 module _ (place : Place) (at now : At) (moment : ℕ) (next : Wanted) (old new : State) (side later : Option Link) (out longer : List Command) where
@@ -111,43 +112,43 @@ module _ (place : Place) (at now : At) (moment : ℕ) (next : Wanted) (old new :
         looks = λ none. subst (λ r. MayLook looked r later) (sym four) (subst (λ s. MayLook looked old s) (sym three) (looks none));
       })
 
-  goes_on : (looked : Wanted) → MayGoUp looked old → MayTakeSide at looked side → MayPass at looked side → (is_passing looked ≡ false → MayLook looked old side) → Goes looked → MayGoOn now next new later
-  goes_on (ready.RequestBody flow given most body (Some held)) reads takes passes looks goes =
-      held_on (begins_with place at flow side (goes_up_with held.read most (length goes.body))) place at now moment flow given most goes.body goes.more goes.got next new side later out longer takes
+  goes_on : (looked : Wanted) → MayGoUp looked old → MayPass at looked side → (is_passing looked ≡ false → MayLook looked old side) → Goes looked → MayGoOn now next new later
+  goes_on (ready.RequestBody flow given most body (Some held)) reads passes looks goes =
+      held_on (goes_up_with held.read most (length goes.body)) place at now moment flow given most goes.body goes.more goes.got next new side later out longer
       (collected old new body held.said.items goes.body goes.more.said.items goes.read.over reads) goes.went
-  goes_on (ready.ResponseHead flow server up) reads takes passes looks goes =
+  goes_on (ready.ResponseHead flow server up) reads passes looks goes =
       let P : Wanted → Type 0 = λ n. MayGoOn now n new later in
       subst P (sym goes.is_there) (record { passes = tt; looks = λ none. subst (IsOpen IsKept) (sym goes.same_side) (looks refl) })
-  goes_on (ready.ResponseBody flow server up most body (Some held)) reads takes passes looks goes =
+  goes_on (ready.ResponseBody flow server up most body (Some held)) reads passes looks goes =
       let P : Wanted → Type 0 = λ n. MayGoOn now n new later in
       subst P (sym goes.is_there) (record {
         passes = reads_on at now flow goes.told side later goes.same goes.same_side (raised_response up moment flow server goes.told goes.goes old new out longer goes.raised) passes;
         looks = λ none. absurd (let no : true ≡ false = none in cc);
       })
-  goes_on (ready.ResponseBody flow server up most body None) reads takes passes looks goes =
+  goes_on (ready.ResponseBody flow server up most body None) reads passes looks goes =
       let P : Wanted → Type 0 = λ n. MayGoOn now n new later in
       subst P (sym goes.is_there) (record { passes = tt; looks = λ none. subst (λ s. IsOpen (λ link. IsReading link.responses) s) (sym goes.same_side) (looks refl) })
-  goes_on (ready.ComingDown flow server up its) reads takes passes looks goes =
+  goes_on (ready.ComingDown flow server up its) reads passes looks goes =
       let P : Wanted → Type 0 = λ n. MayGoOn now n new later in
       subst P (sym goes.is_there) (record {
         passes = reads_on at now flow goes.told side later goes.same goes.same_side (raised_response up moment flow server goes.told goes.goes old new out longer goes.raised) passes;
         looks = λ none. absurd (let no : true ≡ false = none in cc);
       })
-  goes_on ready.Idle reads takes passes looks (rests, same) = rests_on ready.Idle rests.same rests.is_there rests.same_side same passes looks
-  goes_on (ready.RequestBody flow given most body None) reads takes passes looks (rests, same) =
+  goes_on ready.Idle reads passes looks (rests, same) = rests_on ready.Idle rests.same rests.is_there rests.same_side same passes looks
+  goes_on (ready.RequestBody flow given most body None) reads passes looks (rests, same) =
       rests_on (ready.RequestBody flow given most body None) rests.same rests.is_there rests.same_side same passes looks
-  goes_on (ready.Connection flow up) reads takes passes looks (rests, same) = rests_on (ready.Connection flow up) rests.same rests.is_there rests.same_side same passes looks
-  goes_on (ready.Upgraded flow server) reads takes passes looks (rests, same) = rests_on (ready.Upgraded flow server) rests.same rests.is_there rests.same_side same passes looks
-  goes_on (ready.GivenHead flow) reads takes passes looks (rests, same) = rests_on (ready.GivenHead flow) rests.same rests.is_there rests.same_side same passes looks
-  goes_on (ready.GivenBody flow) reads takes passes looks (rests, same) = rests_on (ready.GivenBody flow) rests.same rests.is_there rests.same_side same passes looks
-  goes_on (ready.Connects address) reads takes passes looks (rests, same) = rests_on (ready.Connects address) rests.same rests.is_there rests.same_side same passes looks
-  goes_on ready.Over reads takes passes looks (rests, same) = rests_on ready.Over rests.same rests.is_there rests.same_side same passes looks
+  goes_on (ready.Connection flow up) reads passes looks (rests, same) = rests_on (ready.Connection flow up) rests.same rests.is_there rests.same_side same passes looks
+  goes_on (ready.Upgraded flow server) reads passes looks (rests, same) = rests_on (ready.Upgraded flow server) rests.same rests.is_there rests.same_side same passes looks
+  goes_on (ready.GivenHead flow) reads passes looks (rests, same) = rests_on (ready.GivenHead flow) rests.same rests.is_there rests.same_side same passes looks
+  goes_on (ready.GivenBody flow) reads passes looks (rests, same) = rests_on (ready.GivenBody flow) rests.same rests.is_there rests.same_side same passes looks
+  goes_on (ready.Connects address) reads passes looks (rests, same) = rests_on (ready.Connects address) rests.same rests.is_there rests.same_side same passes looks
+  goes_on ready.Over reads passes looks (rests, same) = rests_on ready.Over rests.same rests.is_there rests.same_side same passes looks
 
 -- It may pass, and look.
-pub may_go_on : (before after : Stream) (moment : ℕ) (looked next : Wanted) (out longer : List Command) → MayGoUp looked before.requests → MayTakeSide before.at looked before.side → MayPass before.at looked before.side →
+pub may_go_on : (before after : Stream) (moment : ℕ) (looked next : Wanted) (out longer : List Command) → MayGoUp looked before.requests → MayPass before.at looked before.side →
     (is_passing looked ≡ false → MayLook looked before.requests before.side) → GoesUpOnce before after moment looked next out longer → MayGoOn after.at next after.requests after.side
-may_go_on before after moment looked next out longer reads takes passes looks once =
-    goes_on before.terms.place before.at after.at moment next before.requests after.requests before.side after.side out longer looked reads takes passes looks once.goes
+may_go_on before after moment looked next out longer reads passes looks once =
+    goes_on before.terms.place before.at after.at moment next before.requests after.requests before.side after.side out longer looked reads passes looks once.goes
 
 -- ---- where nothing is sent on of a request or a response it only looks
 

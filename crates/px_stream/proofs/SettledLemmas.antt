@@ -75,7 +75,7 @@ pub passed_stays : (terms : Terms) (stage : Stage) (seen : Sight) → NotGiven s
 passed_stays terms (idle at) seen other is = stays_there (idle at) seen
 passed_stays terms (busy at flow (request_body None most)) seen other is =
     let stage : Stage = busy at flow (request_body None most) in
-    let P : Bool → Type 0 = λ b. Stays stage seen (both_by terms (pass_going b terms.place at flow most) seen) (left_both terms (pass_going b terms.place at flow most) seen) in
+    let P : Bool → Type 0 = λ b. Stays stage seen (both_by terms (pass_going b terms.place at flow most seen) seen) (left_both terms (pass_going b terms.place at flow most seen) seen) in
     let here : P false = stays_there stage seen in
     subst P (sym is.gone) here
 passed_stays terms (busy at flow (request_body (Some given) most)) seen other is = absurd other

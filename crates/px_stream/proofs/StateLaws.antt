@@ -38,9 +38,9 @@ looks_on terms at (ready.Connects address) seen waits = absurd (not_yet seen.clo
 looks_on terms at ready.Over seen waits = absurd (not_yet seen.closed waits)
 
 -- where the walk stopped at an end nothing more is looked for
-last_at : (connects : Option Connect) (seen : Sight) (requests : State) (last : Wanted) → IsLastAt connects seen requests last → is_last (phase.Ready last) ≡ true
-last_at None seen requests last is = ap (λ r. is_last (phase.Ready r)) is
-last_at (Some connects) seen requests last is = ap (λ r. is_last (phase.Ready r)) is.phase
+last_at : (at : At) (connects : Option Connect) (seen : Sight) (requests : State) (side : Option Link) (last : Wanted) → IsLastAt at connects seen requests side last → is_last (phase.Ready last) ≡ true
+last_at at None seen requests side last is = ap (λ r. is_last (phase.Ready r)) is
+last_at at (Some connects) seen requests side last is = ap (λ r. is_last (phase.Ready r)) is.phase
 
 last_for : (doing : Doing) (seen : Sight) (requests : State) (side : Option Link) (last : Wanted) (flow : Flow) → IsLastFor flow doing seen requests side last → is_last (phase.Ready last) ≡ true
 last_for (request_body given most) seen requests side last flow is = ap (λ r. is_last (phase.Ready r)) is
@@ -54,7 +54,7 @@ last_for given_body seen requests side last flow is = ap (λ r. is_last (phase.R
 
 pub ends_last : (terms : Terms) (stage : Stage) (seen : Sight) (requests : State) (side : Option Link) (last : Wanted) → IsLast terms stage seen requests side last →
     is_last (phase.Ready last) ≡ true
-ends_last terms (idle at) seen requests side last is = last_at (connect_in terms.place (request_in seen)) seen requests last is
+ends_last terms (idle at) seen requests side last is = last_at at (connect_in terms.place (request_in seen)) seen requests side last is
 ends_last terms (busy at flow doing) seen requests side last is = last_for doing seen requests side last flow is
 ends_last terms (next at) seen requests side last is = ap (λ r. is_last (phase.Ready r)) is
 ends_last terms over seen requests side last is = ap (λ r. is_last (phase.Ready r)) is

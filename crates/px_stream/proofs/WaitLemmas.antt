@@ -28,6 +28,7 @@ use Rattle.px_exchange.specs.Texts.{interim_commands}
 use Rattle.px_exchange.specs.declared.place.Place.{Place}
 use Rattle.px_chain.specs.Behind.{dials_at, sight_behind}
 use Rattle.px_chain.specs.Chain.{dial_owes_by, http_chain, reached, sequence}
+use Rattle.px_chain.specs.Keeping.{strays}
 use Rattle.px_chain.specs.Left.{stages_left}
 use Rattle.px_chain.specs.Sights.{Sight, Standing, UsedBytes, bytes_over, shut_over, sight_of, sight_over, sight_with}
 use Rattle.px_chain.specs.Stages.{At, Doing, Parked, Sent, Stage, all_sent, busy, coming_down, connection, given_body, given_head, going_up, idle, next, over, request_body, response_body, response_head, side_of, side_parked, upgraded}
@@ -46,18 +47,18 @@ use Rattle.px_stream.specs.declared.phase.Wanted.{Wanted}
 use Rattle.px_stream.specs.declared.phase.Wanted.TheVariants as ready
 use Rattle.px_stream.specs.declared.stream.Stream.{Stream}
 use Rattle.px_stream.specs.Anywhere.{HearsWaiting, IsFew, IsInSequence, MayReach, OpensInTime, Reaches, ReachesThere, Somewhere, reached_owes}
-use Rattle.px_stream.specs.GoingUp.{MayGoUp, MayTakeSide}
+use Rattle.px_stream.specs.GoingUp.{MayGoUp}
 use Rattle.px_stream.specs.Goings.{sends_to, sends_while, up_text}
-use Rattle.px_stream.specs.Heard.{IsUnshut, SideAgrees, feeds, side_with}
+use Rattle.px_stream.specs.Heard.{IsUnshut, SideAgrees, feeds, side_takes, side_with}
 use Rattle.px_stream.specs.Looks.{MayLook}
 use Rattle.px_stream.specs.Passes.{Advances, MayPass}
 use Rattle.px_stream.specs.Stands.{GoesOnUp, IsIn, IsLink, IsOpen, IsPlaced, IsReady, IsSome, Passes, ReadsLink, SentOn, WaitsUp, awaited_in, awaits, going_asked, none_sent, parked_link, sent_on, stage_of, unread_link, up_in}
-use Rattle.px_stream.specs.Tells.{IsDialling, sequence_left}
+use Rattle.px_stream.specs.Tells.{IsDialling, sequence_left, uses_side}
 use Rattle.px_stream.specs.Turns.{Hears, TurnsTo, first_sent, going_sent, is_dial, side_behind}
 use Rattle.px_stream.proofs.AnywhereLemmas.{PassesNone, gives_all, looked_asks, none_passes}
 use Rattle.px_stream.proofs.AskLemmas.{dial_asked}
 use Rattle.px_stream.proofs.AdvanceLemmas.{AdvancedTo, advances_to, passed_to}
-use Rattle.px_stream.proofs.CallLemmas.{asked_at, at_walked, may_go_up, may_look, may_take, same_tail, turns_in, waits_unclosed}
+use Rattle.px_stream.proofs.CallLemmas.{asked_at, at_walked, may_go_up, may_look, parked_agrees, same_tail, turns_in, waits_unclosed}
 use Rattle.px_stream.proofs.HearLemmas.{parked_took, placed_on, waits_on}
 use Rattle.px_stream.proofs.MoveLemmas.{ask_atoms, asks_seen, at_most, left_asks, pass_few, pass_stages}
 use Rattle.px_stream.proofs.UnreadLemmas.{unread_reads}
@@ -71,6 +72,17 @@ dial_in (phase.Ready looked) dials = absurd dials
 pub dial_awaited : (found : Phase) → IsDialling found → IsSome (awaited_in found)
 dial_awaited (phase.Asked here) dials = tt
 dial_awaited (phase.Ready looked) dials = absurd dials
+
+-- no flow uses a side there
+uses_none : (found : Phase) → IsDialling found → uses_side found ≡ false
+uses_none (phase.Asked (asked.Connection flow server up)) dials = refl
+uses_none (phase.Asked (asked.Idle flow expects)) dials = absurd dials
+uses_none (phase.Asked (asked.RequestBody flow)) dials = absurd dials
+uses_none (phase.Asked (asked.ResponseHead flow server up)) dials = absurd dials
+uses_none (phase.Asked (asked.ResponseBody flow server up)) dials = absurd dials
+uses_none (phase.Asked (asked.GivenHead flow)) dials = absurd dials
+uses_none (phase.Asked (asked.GivenBody flow)) dials = absurd dials
+uses_none (phase.Ready looked) dials = absurd dials
 
 asks_dial : (here : Asked) → IsDialling (phase.Asked here) → is_dial here ≡ true
 asks_dial (asked.Idle flow expects) dials = absurd dials
@@ -128,16 +140,12 @@ waits_open state dials (made, ahead, place, prefix, there) =
     let is = dialled_at made state dial.at dial.flow dial.sent seen (subst (λ s. IsIn made state s seen) dial.stage_is there.is_at.is_in) in
     waits_unclosed made dial.flow seen (going_asked is.here) state.requests is.waits
 
-parked_agrees : (parked : Option Parked) (seen : Sight) → SideAgrees (parked_link parked seen)
-parked_agrees None seen = tt
-parked_agrees (Some parked) seen = refl
-
 pub waits_agree : (state : Stream) → IsDialling state.phase → Somewhere state → SideAgrees state.side
 waits_agree state dials (made, ahead, place, prefix, there) =
     let seen : Sight = sight_over place prefix in
     let dial = is_at_dial made state place.stage seen dials there.is_at.is_in in
     let is = dialled_at made state dial.at dial.flow dial.sent seen (subst (λ s. IsIn made state s seen) dial.stage_is there.is_at.is_in) in
-    subst SideAgrees (sym is.side) (parked_agrees dial.at.parked seen)
+    parked_agrees dial.at.parked seen state.side is.side
 
 -- ---- behind the client's close nothing is heard
 
@@ -218,6 +226,7 @@ module _ (made : Terms) (before after : Stream) (at : At) (flow : Flow) (sent : 
       let (here, live, asks) = is.phase in
       record {
         terms = terms ∙ is.terms;
+        apart = tt;
         place = record { is_here = same_at ∙ is.place.is_here; client = client };
         phase = (here, same ∙ live, record { asks = asks.asks; how = asks.how; request = on (going_asked here) asks.request; has_side = parked });
       }
@@ -255,8 +264,8 @@ module _ (before : Stream) (event : Event) where
   }
 
   -- while the client has not closed
-  pub hears_on : (after : Stream) → after.phase ≡ before.phase → Hears before after event → before.client_closed ≡ false → HearsWaiting before after event
-  hears_on after same heard is_open = record {
+  pub hears_on : (after : Stream) → IsDialling before.phase → after.phase ≡ before.phase → Hears (uses_side before.phase) before after event → before.client_closed ≡ false → HearsWaiting before after event
+  hears_on after dials same heard is_open = record {
     hears = λ made ahead place prefix moment at flow sent stands in_time there.
         let e : Timed Event = record { moment = moment; value = event } in
         let seen : Sight = sight_over place prefix in
@@ -269,7 +278,7 @@ module _ (before : Stream) (event : Event) where
         (waits_in made before after at flow sent heard.terms heard.at same seen later here
         (heard.client ∙ (placed_on at (side_parked at.parked) seen event moment before.at before.client_closed is.place).client)
         (λ up waiting. subst (WaitsUp made flow later up) (sym heard.requests) (waits_on made seen event moment before.requests before.side none_sent ready.Idle flow up (side_parked at.parked) waiting))
-        (heard.side ∙ parked_took at.parked seen event moment before.side is.side));
+        (heard.side ∙ (ap (λ u. side_takes u event before.side) (uses_none before.phase dials) ∙ parked_took at.parked seen event moment before.side is.side)));
   }
 
 -- ---- it is connected
@@ -353,8 +362,8 @@ module _ (before turned : Stream) (moment : ℕ) (found : Asked) (looked : Wante
       let (owes, there) = turns_in before moment reply.Dialled found live made (busy at flow (connection sent)) seen is turned looked out between call in
       let asks = asked_at made before (busy at flow (connection sent)) seen found live is in
       let opened : turned.side ≡ Some (unread_link at.dials (is_head flow.request.method) [] false) =
-      call.side ∙ (ap (λ d. side_behind d (stage_of turned.at looked) before.side) (dial_asked made (busy at flow (connection sent)) seen found asks.2.asks)
-      ∙ ap (λ s. side_behind true s before.side) there.is_ready.is_stage) in
+      call.side ∙ (ap (λ d. side_behind d (stage_of turned.at looked) call.middle) (dial_asked made (busy at flow (connection sent)) seen found asks.2.asks)
+      ∙ ap (λ s. side_behind true s call.middle) there.is_ready.is_stage) in
       let behind : Sight = sight_behind made.place (busy at flow (connection sent)) seen moment (answering made at flow sent) in
       let link = subst (IsOpen (IsLink (reached made.place flow).request at.dials behind there.sent.interim [])) opened there.is_ready.has_side in
       let none : there.sent.interim ≡ [] = no_interim (is_head flow.request.method) link.fed there.sent.interim link.passes in
@@ -423,11 +432,6 @@ module _ (before turned : Stream) (moment : ℕ) (found : Asked) (looked : Wante
         let is = somewhere stands in
         may_go_up is.made turned.at turned.requests side looked (answering is.made is.at is.flow is.sent) (later_of is.seen) (of_text is.few.text) (ready_somewhere is)
 
-    pub reach_takes : Somewhere before → MayTakeSide turned.at looked side
-    reach_takes stands =
-        let is = somewhere stands in
-        may_take is.made turned.at turned.requests side looked (answering is.made is.at is.flow is.sent) (later_of is.seen) (of_text is.few.text) (ready_somewhere is)
-
     pub reach_passes : Somewhere before → MayPass turned.at looked side
     reach_passes stands = none_passes turned.at looked side (subst PassesNone (sym (somewhere stands).few.stage) tt)
 
@@ -440,7 +444,7 @@ module _ (before turned : Stream) (moment : ℕ) (found : Asked) (looked : Wante
       reached_in : (made : Terms) (at : At) (flow : Flow) (sent : Sent) (seen later : Sight) → (is : Connected made at flow sent seen) → later.client ≡ seen.client → later.closed ≡ seen.closed → later.told ≡ 0 →
           later.server ≡ rest → later.shut ≡ false → moment ≡ later.now → AdvancedTo made after (answering made at flow sent) later (of_text is.text) between longer
       reached_in made at flow sent seen later is client shut told come unshut now =
-          advances_to made given after moment looked between longer (answering made at flow sent) later (of_text is.text) is.terms now (ready_in made at flow sent seen later is client told come unshut)
+          advances_to made given after moment looked between longer (answering made at flow sent) later (of_text is.text) refl is.terms now (ready_in made at flow sent seen later is client told come unshut)
           (record { is_here = is.place; client = is.client ∙ sym shut }) once
 
       -- as far as one place tells it
@@ -474,6 +478,7 @@ module _ (before turned : Stream) (moment : ℕ) (found : Asked) (looked : Wante
           let got = subst (λ s. AdvancedTo made after s later (of_text is.text) between longer) (sym may.stage)
           (reached_in made may.at may.flow may.sent seen later is (ap (λ n. drop n (bytes_of Client prefix)) may.client) refl may.told may.come may.unshut may.now) in
           let sent_there : sent_on to.stage (of_text is.text) ≡ first may.at = ap (λ s. sent_on s (of_text is.text)) may.stage ∙ is.is_first in
+          let none : strays to.stage later ≡ [] = ap (λ s. strays s later) may.stage in
           let parts : more ≡ owed ++ (first may.at ++ got.more) = same_tail out more (owed ++ (first may.at ++ got.more)) (sym grown ∙ joined owed (first may.at) got.more is.owes got.grown) in
           let few : IsFew ahead (busy may.at may.flow (connection may.sent)) = subst (IsFew ahead) may.dialling may.there.few in
           let few_there : IsFew ahead (answering made may.at may.flow may.sent) = (let d = few.dials in record { few = few.few; dials = omega arith }) in
@@ -484,7 +489,8 @@ module _ (before turned : Stream) (moment : ℕ) (found : Asked) (looked : Wante
               small = may.there.small;
             };
             gives = λ view. ap (seen_of view) parts ∙ (seen_append view owed (first may.at ++ got.more)
-                ∙ (ap (λ l. seen_of view owed ++ l) (gives_all made after to prefix (of_text is.text) between longer (first may.at ++ got.more) got (ap (λ l. l ++ got.more) sent_there) view)
+                ∙ (ap (λ l. seen_of view owed ++ l) (gives_all made after to prefix (of_text is.text) between longer (first may.at ++ got.more) got
+                (ap (λ l. l ++ (sent_on to.stage (of_text is.text) ++ got.more)) none ∙ ap (λ l. l ++ got.more) sent_there) view)
                 ∙ sym (seen_append view owed (owed_over (http_chain sequence made) to prefix))));
           }
 

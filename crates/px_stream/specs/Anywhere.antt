@@ -87,7 +87,7 @@ Waits None seen waiting = ⊤
 Waits (Some parked) seen waiting = (seen.server ≡ waiting) × (seen.shut ≡ false)
 
 -- A new stream may begin at this place and over this prefix, where a request is awaited: it was made for it, these are the client's
--- bytes that were not used before and those of the parked side, and it is known whether the client has closed.
+-- bytes that were not used before and those of the parked side (by which that is kept no more), and it is known whether the client has closed.
 pub record MayBegin (made : Terms) (ahead : ℕ) (state : Stream) (moment : ℕ) (closed : Bool) (rest waiting : List ℕ) (place : Standing) (prefix : List (Timed Event)) : Type 0 where
   pub terms : state.terms ≡ made
   pub stage : place.stage ≡ idle state.at

@@ -1,11 +1,11 @@
 -- Passing, of a request: what comes of one that is streamed, or may yet be, is sent on while nothing else is awaited for it.
-use Rattle.std.specs.Prelude.{◌≡◌, ◌==◌, ◌++◌, ◌&&◌, ℕ, Bool, true, false, not, List, [], length, Option, Some, None, ⊤}
+use Rattle.std.specs.Prelude.{◌≡◌, ◌++◌, ℕ, Bool, true, false, List, [], length, Option, Some, None, ⊤}
 use Rattle.px_message.specs.declared.flow.Flow.{Flow}
 use Rattle.px_message.specs.declared.request.Request.{Request}
 use Rattle.px_message.specs.declared.response.Response.{Response}
 use Rattle.px_event.specs.declared.command.Command.{Command}
 use Rattle.px_event.specs.View.{View, seen_of}
-use Rattle.px_read.specs.Reader.{State, keeps, to_come}
+use Rattle.px_read.specs.Reader.{State, to_come}
 use Rattle.px_write.specs.Text.{request_head_text}
 use Rattle.px_parts.specs.Texts.{last_text}
 use Rattle.px_exchange.specs.declared.body.Progress.{Progress}
@@ -15,10 +15,10 @@ use Rattle.px_exchange.specs.declared.terms.Terms.{Terms}
 use Rattle.px_exchange.specs.Bodies.{IsReading}
 use Rattle.px_exchange.specs.Places.{form_at}
 use Rattle.px_exchange.specs.Requests.{is_head}
-use Rattle.px_chain.specs.Chain.{begin_up, begins_going, end_up, gone_by, gone_up, going_at, parked_for, reached, sight_begun, sight_gone}
-use Rattle.px_chain.specs.Going.{sending_on, whole_in, with_whole}
+use Rattle.px_chain.specs.Chain.{begin_up, end_up, gone_by, gone_up, going_at, parked_for, reached, sight_begun, sight_gone}
+use Rattle.px_chain.specs.Going.{goes_up, sending_on, whole_in, with_whole}
 use Rattle.px_chain.specs.Sights.{Sight}
-use Rattle.px_chain.specs.Stages.{At, Doing, Parked, Stage, busy, request_body, unparked}
+use Rattle.px_chain.specs.Stages.{At, Doing, Stage, busy, request_body, unparked}
 use Rattle.px_stream.specs.declared.going.Going.{Going}
 use Rattle.px_stream.specs.declared.going.HeldRequest.{HeldRequest}
 use Rattle.px_stream.specs.declared.going.Sending.{Sending}
@@ -29,8 +29,8 @@ use Rattle.px_stream.specs.declared.phase.Wanted.TheVariants as ready
 use Rattle.px_stream.specs.declared.stream.Stream.{Stream}
 use Rattle.px_stream.specs.Comings.{GoesOver, GoesOverHeld}
 use Rattle.px_stream.specs.Goings.{framed_up_by, goes_up_with, sends_to}
-use Rattle.px_stream.specs.Stands.{IsReady, IsSome, SentOn, sent_on}
-use Rattle.px_stream.specs.Turns.{opened_side}
+use Rattle.px_stream.specs.Stands.{IsReady, SentOn, sent_on}
+use Rattle.px_stream.specs.Turns.{opened_side, with_open}
 
 -- ---- where anything is sent on of a request
 
@@ -61,15 +61,6 @@ MayGoUp (ready.ResponseHead flow server up) requests = MayReadUp up requests
 MayGoUp (ready.ResponseBody flow server up most body held) requests = MayReadUp up requests
 MayGoUp (ready.ComingDown flow server up sent) requests = MayReadUp up requests
 MayGoUp looked requests = ⊤
-
--- and where it may go to the side that is parked, that is open
-abbrev pub ParkedOpen : Option Parked → Option Link → Type 0
-ParkedOpen None side = ⊤
-ParkedOpen (Some parked) side = IsSome side
-
-abbrev pub MayTakeSide : At → Wanted → Option Link → Type 0
-MayTakeSide at (ready.RequestBody flow given most body (Some held)) side = ParkedOpen at.parked side
-MayTakeSide at looked side = ⊤
 
 -- ---- a request that goes up: as it is sent, and this text came of it, up to its end
 
@@ -126,23 +117,6 @@ pub record Raised (there : Flow → Sending → Wanted) (at now : At) (moment : 
 
 -- ---- a request that may yet be streamed
 
--- nothing waits of a side, and it has not closed
-abbrev pub silent_link : Link → Bool
-silent_link link = (keeps link.responses == 0) && not link.closed
-
-abbrev pub silent_side : Option Link → Bool
-silent_side None = true
-silent_side (Some link) = silent_link link
-
--- of the side that is parked, where it is taken
-abbrev pub unheard_side : Option ℕ → Option Link → Bool
-unheard_side None side = true
-unheard_side (Some server) side = silent_side side
-
--- It begins to go up where it is streamed, and nothing was heard of the side that it goes to.
-abbrev pub begins_with : Place → At → Flow → Option Link → Bool → Bool
-begins_with place at flow side streams = streams && unheard_side (parked_for place flow.request at.parked) side
-
 -- its server is to be dialled, and the text waits for that
 pub record DialsUp (at now : At) (flow : Flow) (sent : Request) (text : List ℕ) (next : Wanted) (side later : Option Link) (out longer : List Command) : Type 0 where
   pub going : Going
@@ -170,7 +144,7 @@ LedUp (Some server) place at now moment flow sent got text next side later out l
 pub record StartedUp (place : Place) (at now : At) (moment : ℕ) (flow : Flow) (read : Request) (got : Progress) (said : List ℕ) (next : Wanted) (side later : Option Link) (out longer : List Command) : Type 0 where
   pub sent : Request
   pub sent_as : sent ≡ framed_up_by read (sending_on flow).request
-  pub led : LedUp (parked_for place flow.request at.parked) place at now moment (sending_on flow) sent got (request_head_text sent (form_at place) ++ said) next side later out longer
+  pub led : LedUp (parked_for place flow.request (with_open at side).parked) place at now moment (sending_on flow) sent got (request_head_text sent (form_at place) ++ said) next side later out longer
 
 -- nothing changes
 pub record RestsUp (at now : At) (next there : Wanted) (side later : Option Link) (out longer : List Command) : Type 0 where
@@ -191,7 +165,7 @@ pub record HeldUpPassed (place : Place) (at now : At) (moment : ℕ) (flow : Flo
   pub more : HeldRequest
   pub same : more.read ≡ held.read
   pub read : GoesOverHeld got old content held.said.items new body more.said.items
-  pub went : HeldUpWent (begins_with place at flow side (goes_up_with held.read most (length body))) place at now moment flow given most body more got next side later out longer
+  pub went : HeldUpWent (goes_up_with held.read most (length body)) place at now moment flow given most body more got next side later out longer
 
 -- ---- whatever is looked for
 
@@ -220,7 +194,7 @@ IsNotWhole doing seen = gone_by (going_at doing) (whole_in seen) ≡ None
 
 -- That has been done already: a request that is kept does not go up yet, and one that goes up is not whole.
 abbrev pub IsGoneFor : Place → At → Flow → Doing → Sight → Type 0
-IsGoneFor place at flow (request_body None most) seen = begins_going place at flow most seen ≡ false
+IsGoneFor place at flow (request_body None most) seen = goes_up most seen ≡ false
 IsGoneFor place at flow (request_body (Some given) most) seen = ⊤
 IsGoneFor place at flow doing seen = IsNotWhole doing seen
 

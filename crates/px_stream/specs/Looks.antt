@@ -29,7 +29,7 @@ use Rattle.px_exchange.specs.Finds.{is_relayed, look_head, or_leaves}
 use Rattle.px_exchange.specs.Flows.{ask_of, response_of, with_answer, with_body, with_returned}
 use Rattle.px_exchange.specs.Places.{dialled_for}
 use Rattle.px_exchange.specs.Requests.{expects, flow_of, is_http11, judged}
-use Rattle.px_chain.specs.Chain.{Connect, behind, connect_in, given_at, look, so_far}
+use Rattle.px_chain.specs.Chain.{Connect, behind, connect_in, given_at, look, waits_at}
 use Rattle.px_chain.specs.Sights.{Sight}
 use Rattle.px_chain.specs.Stages.{At, Stage}
 use Rattle.px_stream.specs.declared.coming.Held.{Held}
@@ -44,7 +44,7 @@ use Rattle.px_stream.specs.declared.phase.Wanted.{Wanted}
 use Rattle.px_stream.specs.declared.phase.Wanted.TheVariants as ready
 use Rattle.px_stream.specs.declared.reading.FinalHead.{FinalHead}
 use Rattle.px_stream.specs.declared.reading.FinalHead.TheVariants as answer
-use Rattle.px_stream.specs.Responses.{GaveOne, IsKept, ReadsAnswer}
+use Rattle.px_stream.specs.Responses.{GaveOne, IsKept, ReadsHead}
 use Rattle.px_stream.specs.Stands.{IsOpen, PhaseAt, StaysOpen, marks_at}
 
 -- nothing more comes
@@ -180,7 +180,7 @@ pub record AnswerFound (flow : Flow) (server : ℕ) (up : Sending) (requests lat
   pub up_read : UpRead up bad requests later
   pub got : FinalHead
   pub between : List Command
-  pub read : StaysOpen (λ link later. ReadsAnswer got (is_http11 flow.request.version) link out later between) old new
+  pub read : StaysOpen (λ link later. ReadsHead flow.request got (is_http11 flow.request.version) link out later between) old new
   pub gives : longer ≡ between ++ unless_bad bad flow moment used closed (answer_gives flow got moment used closed)
   pub phase : next ≡ unless_over bad (answer_phase flow server up got moment closed)
 
@@ -277,9 +277,9 @@ MayLook (ready.ResponseBody flow server up most body held) requests side = IsOpe
 MayLook (ready.ComingDown flow server up sent) requests side = IsOpen (λ link. IsReading link.responses) side
 MayLook looked requests side = ⊤
 
--- What was given before and what was added are, in each view, what the stage owes in the sight, and the phase is that of the stage.
+-- What was given before and what was added are, in each view, what the stage owes in the sight, but for the close of a parked side of which a byte came, and the phase is that of the stage.
 pub record LookedAt (terms : Terms) (at : At) (stage : Stage) (seen : Sight) (requests : State) (side : Option Link) (is_now : Phase) (before out longer : List Command) : Type 0 where
   pub more : List Command
   pub grown : longer ≡ out ++ more
-  pub owes : (view : View) → seen_of view (before ++ more) ≡ seen_of view (so_far terms stage seen ++ found_with (behind stage seen) (look terms stage seen))
+  pub owes : (view : View) → seen_of view (before ++ more) ≡ seen_of view (waits_at terms stage seen ++ found_with (behind stage seen) (look terms stage seen))
   pub phase : PhaseAt (look terms stage seen) terms at requests side is_now stage seen

@@ -13,14 +13,15 @@ use Rattle.px_exchange.specs.declared.ending.Used.TheVariants.{NoServer}
 use Rattle.px_exchange.specs.declared.place.Place.{Place}
 use Rattle.px_exchange.specs.declared.terms.Terms.{Terms}
 use Rattle.px_exchange.specs.Bodies.{IsReading}
-use Rattle.px_exchange.specs.Endings.{finished_streamed, goes_on_behind, shut_unless}
+use Rattle.px_exchange.specs.Endings.{finished_streamed, goes_on_behind, shut_unless, unless_kept}
 use Rattle.px_exchange.specs.Requests.{is_head}
 use Rattle.px_event.specs.View.{View, seen_of}
 use Rattle.px_chain.specs.Chain.{behind_flow, come_down, pass, sequence, sight_come, sight_past}
 use Rattle.px_chain.specs.Going.{is_sent}
+use Rattle.px_chain.specs.Keeping.{parks}
 use Rattle.px_chain.specs.Sights.{Sight}
 use Rattle.px_chain.specs.Coming.{came_in, streaming, streams_in}
-use Rattle.px_chain.specs.Stages.{At, Stage, busy, coming_down, over, response_body, unparked}
+use Rattle.px_chain.specs.Stages.{At, Stage, busy, coming_down, over, response_body}
 use Rattle.px_stream.specs.declared.coming.Held.{Held}
 use Rattle.px_stream.specs.declared.going.Sending.{Sending}
 use Rattle.px_stream.specs.declared.link.Link.{Link}
@@ -31,7 +32,7 @@ use Rattle.px_stream.specs.Comings.{GoesOver, GoesOverHeld, framed_by, sends_tex
 use Rattle.px_stream.specs.Stands.{IsOpen, IsReady, IsSome, SentOn, StaysOpen, sent_on, stage_of, used_in}
 use Rattle.px_stream.specs.GoingUp.{GoesUpOnce, HasNoMoreUp, IsGone}
 use Rattle.px_stream.specs.Goings.{sent_of}
-use Rattle.px_stream.specs.Turns.{LooksOnce, requests_behind, side_behind}
+use Rattle.px_stream.specs.Turns.{LooksOnce, keeps_on, new_side, requests_behind, side_behind}
 
 -- ---- where anything is passed
 
@@ -62,38 +63,48 @@ MayPass at looked side = ⊤
 abbrev pub stays_behind : ℕ → Flow → Sending → (response sent : Response) → Bool
 stays_behind index flow up response sent = is_sent (sent_of up) && goes_on_behind index flow.request response sent
 
-abbrev pub ended_gives : ℕ → Flow → Sending → Option Response → (sent : Response) → ℕ → Used → Bool → List Command
-ended_gives index flow up None sent moment used closed = []
-ended_gives index flow up (Some response) sent moment used closed =
-    finished_streamed flow moment used ++ shut_unless (stays_behind index flow up response sent) NoServer closed
+-- There its side is kept, where it may be.
+abbrev pub ended_gives : ℕ → Flow → Sending → Option Response → (sent : Response) → (keeps : Bool) → ℕ → Used → Bool → List Command
+ended_gives index flow up None sent keeps moment used closed = []
+ended_gives index flow up (Some response) sent keeps moment used closed =
+    finished_streamed flow moment (unless_kept (stays_behind index flow up response sent && keeps) used) ++ shut_unless (stays_behind index flow up response sent) NoServer closed
 
-abbrev pub ended_leads : At → Flow → Sending → Option Response → (sent : Response) → Stage
-ended_leads at flow up None sent = over
-ended_leads at flow up (Some response) sent = sequence (behind_flow (stays_behind at.flow flow up response sent) (unparked at))
+abbrev pub ended_leads : Place → At → Flow → ℕ → Sending → Option Response → (sent : Response) → (keeps : Bool) → Stage
+ended_leads place at flow server up None sent keeps = over
+ended_leads place at flow server up (Some response) sent keeps =
+    sequence (behind_flow (stays_behind at.flow flow up response sent) (parks (stays_behind at.flow flow up response sent && keeps) place at flow.request server))
 
-abbrev pub down_gives : ℕ → Flow → Sending → (sent : Response) → Progress → List ℕ → ℕ → Used → Bool → List Command
-down_gives index flow up sent (progress.Whole trailers) text moment used closed =
-    sends_text (text ++ last_text sent.fields trailers) ++ ended_gives index flow up flow.response sent moment used closed
-down_gives index flow up sent got text moment used closed = sends_text text
+abbrev pub down_gives : ℕ → Flow → Sending → (sent : Response) → (keeps : Bool) → Progress → List ℕ → ℕ → Used → Bool → List Command
+down_gives index flow up sent keeps (progress.Whole trailers) text moment used closed =
+    sends_text (text ++ last_text sent.fields trailers) ++ ended_gives index flow up flow.response sent keeps moment used closed
+down_gives index flow up sent keeps got text moment used closed = sends_text text
 
-abbrev pub DownLeads : Progress → At → At → Flow → ℕ → Sending → (sent : Response) → Wanted → Type 0
-DownLeads (progress.Whole trailers) at new flow server up sent next = stage_of new next ≡ ended_leads at flow up flow.response sent
-DownLeads got at new flow server up sent next = (new ≡ at) × (next ≡ ready.ComingDown flow server up sent)
+abbrev pub DownLeads : Progress → Place → At → At → Flow → ℕ → Sending → (sent : Response) → (keeps : Bool) → Wanted → Type 0
+DownLeads (progress.Whole trailers) place at new flow server up sent keeps next = stage_of new next ≡ ended_leads place at flow server up flow.response sent keeps
+DownLeads got place at new flow server up sent keeps next = (new ≡ at) × (next ≡ ready.ComingDown flow server up sent)
 
-pub record WentDown (at new : At) (moment : ℕ) (used : Used) (closed : Bool) (flow : Flow) (server : ℕ) (up : Sending) (sent : Response) (got : Progress) (text : List ℕ) (next : Wanted) (out longer : List Command) : Type 0 where
-  pub gives : longer ≡ out ++ down_gives at.flow flow up sent got text moment used closed
-  pub leads : DownLeads got at new flow server up sent next
+-- the next flow reads the side from its beginning, where it is kept
+abbrev pub SideCame : Wanted → Option Link → Option Link → Type 0
+SideCame ready.Idle side later = later ≡ new_side side
+SideCame ready.Over side later = ⊤
+SideCame next side later = later ≡ side
+
+pub record WentDown (place : Place) (at new : At) (moment : ℕ) (used : Used) (closed : Bool) (flow : Flow) (server : ℕ) (up : Sending) (sent : Response) (got : Progress) (text : List ℕ) (next : Wanted) (side later : Option Link) (out longer : List Command) : Type 0 where
+  pub gives : longer ≡ out ++ down_gives at.flow flow up sent (keeps_on flow.request side) got text moment used closed
+  pub leads : DownLeads got place at new flow server up sent (keeps_on flow.request side) next
+  pub is_side : SideCame next side later
 
 -- its reader gave what had come
 pub record SaysMore (got : Progress) (text longer : List ℕ) (old new : Link) : Type 0 where
   pub same : new ≡ record old { responses = new.responses }
   pub read : GoesOver got old.responses text new.responses longer
 
-pub record DownPassed (at new : At) (moment : ℕ) (used : Used) (closed : Bool) (flow : Flow) (server : ℕ) (up : Sending) (sent : Response) (next : Wanted) (side later : Option Link) (out longer : List Command) : Type 0 where
+pub record DownPassed (place : Place) (at new : At) (moment : ℕ) (used : Used) (closed : Bool) (flow : Flow) (server : ℕ) (up : Sending) (sent : Response) (next : Wanted) (side later : Option Link) (out longer : List Command) : Type 0 where
   pub got : Progress
   pub text : List ℕ
-  pub read : StaysOpen (SaysMore got [] text) side later
-  pub went : WentDown at new moment used closed flow server up sent got text next out longer
+  pub heard : Option Link
+  pub read : StaysOpen (SaysMore got [] text) side heard
+  pub went : WentDown place at new moment used closed flow server up sent got text next heard later out longer
 
 -- ---- a response that may yet be streamed
 
@@ -107,10 +118,10 @@ streams_by flow None read most heard = false
 streams_by flow (Some response) read most heard = streams_with (is_head flow.request.method) read response most heard
 
 -- the first that is sent of it
-pub record StartedDown (at new : At) (moment : ℕ) (used : Used) (closed : Bool) (flow : Flow) (server : ℕ) (up : Sending) (read : Response) (got : Progress) (said : List ℕ) (next : Wanted) (out longer : List Command) : Type 0 where
+pub record StartedDown (place : Place) (at new : At) (moment : ℕ) (used : Used) (closed : Bool) (flow : Flow) (server : ℕ) (up : Sending) (read : Response) (got : Progress) (said : List ℕ) (next : Wanted) (side later : Option Link) (out longer : List Command) : Type 0 where
   pub response : Response
   pub is_given : (streaming flow).response ≡ Some response
-  pub went : WentDown at new moment used closed (streaming flow) server up (framed_by read response) got (response_head_text (framed_by read response) ++ said) next out longer
+  pub went : WentDown place at new moment used closed (streaming flow) server up (framed_by read response) got (response_head_text (framed_by read response) ++ said) next side later out longer
 
 -- it is held on
 pub record HeldOn (at new : At) (next there : Wanted) (out longer : List Command) : Type 0 where
@@ -118,34 +129,35 @@ pub record HeldOn (at new : At) (next there : Wanted) (out longer : List Command
   pub is_there : next ≡ there
   pub gives : longer ≡ out
 
-abbrev pub HeldWent : Bool → At → At → ℕ → Used → Bool → Flow → ℕ → Sending → Option ℕ → List ℕ → Held → Progress → Wanted → List Command → List Command → Type 0
-HeldWent true at new moment used closed flow server up most body held got next out longer =
-    StartedDown at new moment used closed flow server up held.read got held.said.items next out longer
-HeldWent false at new moment used closed flow server up most body held got next out longer =
-    HeldOn at new next (ready.ResponseBody flow server up most body (Some held)) out longer
+abbrev pub HeldWent : Bool → Place → At → At → ℕ → Used → Bool → Flow → ℕ → Sending → Option ℕ → List ℕ → Held → Progress → Wanted → Option Link → Option Link → List Command → List Command → Type 0
+HeldWent true place at new moment used closed flow server up most body held got next side later out longer =
+    StartedDown place at new moment used closed flow server up held.read got held.said.items next side later out longer
+HeldWent false place at new moment used closed flow server up most body held got next side later out longer =
+    HeldOn at new next (ready.ResponseBody flow server up most body (Some held)) out longer × (later ≡ side)
 
-pub record HeldPassed (at new : At) (moment : ℕ) (used : Used) (closed : Bool) (flow : Flow) (server : ℕ) (up : Sending) (most : Option ℕ) (content : List ℕ) (held : Held) (next : Wanted) (side later : Option Link) (out longer : List Command) : Type 0 where
+pub record HeldPassed (place : Place) (at new : At) (moment : ℕ) (used : Used) (closed : Bool) (flow : Flow) (server : ℕ) (up : Sending) (most : Option ℕ) (content : List ℕ) (held : Held) (next : Wanted) (side later : Option Link) (out longer : List Command) : Type 0 where
   pub got : Progress
   pub body : List ℕ
   pub more : Held
   pub same : more.read ≡ held.read
-  pub read : StaysOpen (HoldsMore got content held.said.items body more.said.items) side later
-  pub went : HeldWent (streams_by flow flow.response held.read most (length body)) at new moment used closed flow server up most body more got next out longer
+  pub heard : Option Link
+  pub read : StaysOpen (HoldsMore got content held.said.items body more.said.items) side heard
+  pub went : HeldWent (streams_by flow flow.response held.read most (length body)) place at new moment used closed flow server up most body more got next heard later out longer
 
 -- ---- whatever is looked for
 
-abbrev pub Passed : At → At → ℕ → Used → Bool → Wanted → Wanted → Option Link → Option Link → List Command → List Command → Type 0
-Passed at new moment used closed (ready.ResponseBody flow server up most body (Some held)) next side later out longer =
-    HeldPassed at new moment used closed flow server up most body held next side later out longer
-Passed at new moment used closed (ready.ComingDown flow server up sent) next side later out longer =
-    DownPassed at new moment used closed flow server up sent next side later out longer
-Passed at new moment used closed looked next side later out longer = HeldOn at new next looked out longer × (later ≡ side)
+abbrev pub Passed : Place → At → At → ℕ → Used → Bool → Wanted → Wanted → Option Link → Option Link → List Command → List Command → Type 0
+Passed place at new moment used closed (ready.ResponseBody flow server up most body (Some held)) next side later out longer =
+    HeldPassed place at new moment used closed flow server up most body held next side later out longer
+Passed place at new moment used closed (ready.ComingDown flow server up sent) next side later out longer =
+    DownPassed place at new moment used closed flow server up sent next side later out longer
+Passed place at new moment used closed looked next side later out longer = HeldOn at new next looked out longer × (later ≡ side)
 
 -- A stream went on once without an answer, and its readers followed.
 abbrev pub PassedBy : Bool → Stream → Stream → ℕ → Wanted → Wanted → Option Link → List Command → List Command → Type 0
 PassedBy false before after moment looked next middle out longer = HeldOn before.at after.at next looked out longer × (after.requests ≡ before.requests) × (after.side ≡ before.side)
 PassedBy true before after moment looked next middle out longer =
-    Passed before.at after.at moment (used_in before.side) before.client_closed looked next before.side middle out longer
+    Passed before.terms.place before.at after.at moment (used_in before.side) before.client_closed looked next before.side middle out longer
     × (after.requests ≡ requests_behind (stage_of after.at next) before.requests) × (after.side ≡ side_behind false (stage_of after.at next) middle)
 
 pub record PassesOnce (before after : Stream) (moment : ℕ) (looked next : Wanted) (out longer : List Command) : Type 0 where

@@ -15,6 +15,8 @@ use Rattle.px_stream.specs.declared.reading.FinalHead.TheVariants as answer
 use Rattle.px_stream.specs.declared.reading.Came.{Came}
 use Rattle.px_stream.specs.declared.reading.Came.TheVariants as came
 use Rattle.px_stream.specs.Stands.{IsQuiet, ReadsLink}
+use Rattle.px_message.specs.declared.request.Request.{Request}
+use Rattle.px_exchange.specs.Endings.{read_persists}
 use Rattle.px_exchange.specs.Texts.{sends_on}
 
 -- what a part of a response is here: the head of an interim one, or what there is of the final one
@@ -70,6 +72,19 @@ pub record AnswerRead (got : FinalHead) (sends : Bool) (asked_head : Bool) (numb
   pub grown : longer ≡ out ++ sends_on sends more
   pub come : AnswerCome got asked_head number bytes shut (sent ++ more) new
 
+-- once the head was read it is known whether its response, to this request, persists
+abbrev pub persists_by : Request → FinalHead → Bool → Bool
+persists_by message (answer.Head head) before = read_persists message head
+persists_by message got before = before
+
+abbrev pub noting : Request → FinalHead → Link → Link
+noting message got link = record link { persists = persists_by message got link.persists }
+
 abbrev pub ReadsAnswer : FinalHead → Bool → Link → List Command → Link → List Command → Type 0
 ReadsAnswer got sends old out new longer = (asked_head : Bool) (number : ℕ) (bytes : List ℕ) (shut : Bool) (sent : List ResponseHead) → ReadsLink asked_head number bytes shut sent [] old →
     AnswerRead got sends asked_head number bytes shut sent new out longer
+
+pub record ReadsHead (message : Request) (got : FinalHead) (sends : Bool) (old : Link) (out : List Command) (new : Link) (longer : List Command) : Type 0 where
+  pub read : Link
+  pub reads : ReadsAnswer got sends old out read longer
+  pub noted : new ≡ noting message got read

@@ -33,7 +33,9 @@ use Rattle.px_exchange.specs.Flows.{hook_of, response_of, with_answer, with_body
 use Rattle.px_exchange.specs.Requests.{is_head, expects, fields_asked, flow_of, judged}
 use Rattle.px_exchange.specs.Texts.{interim_commands}
 use Rattle.px_event.specs.View.{View, seen_of}
-use Rattle.px_chain.specs.Chain.{Connect, connect_in, given_at, look, so_far}
+use Rattle.px_exchange.specs.Endings.{read_persists}
+use Rattle.px_chain.specs.Chain.{Connect, connect_in, given_at, look, waits_at}
+use Rattle.px_chain.specs.Keeping.{is_silent}
 use Rattle.px_chain.specs.Going.{framed_up, whole_in}
 use Rattle.px_chain.specs.Sights.{Sight, Standing, IsWithin, answers_in, client_left, request_in, server_left, sight_over}
 use Rattle.px_chain.specs.Stages.{At, Doing, Parked, Sent, Stage, all_sent, busy, coming_down, connection, given_body, given_head, idle, next, over, place_of, request_body, response_body, response_head, upgraded}
@@ -326,6 +328,7 @@ pub record ReadsReturn (flow : Flow) (server : ℕ) (most : Option ℕ) (seen : 
   pub is_content : content ≡ content_of marks
   pub holds : Holds flow most head marks held
   pub final : is_interim head ≡ false
+  pub lasts : link.persists ≡ read_persists flow.request head
   pub is_link : IsLink flow.request server seen sent (answers head ∷ marks) link
 
 -- The response is streamed, and as its head's hook left it; it is sent as this one.
@@ -348,12 +351,14 @@ pub record ReadsDown (flow : Flow) (server : ℕ) (seen : Sight) (is_sent : Opti
   pub is_text : text ≡ sent_text is_sent marks
   pub streamed : IsStreamed flow head is_sent
   pub final : is_interim head ≡ false
+  pub lasts : link.persists ≡ read_persists flow.request head
   pub is_link : IsLink flow.request server seen sent (answers head ∷ marks) link
 
 -- the final head was read
 pub record ReadsFinal (message : Request) (server : ℕ) (seen : Sight) (link : Link) : Type 0 where
   pub sent : List ReadResponse
   pub head : ReadResponse
+  pub lasts : link.persists ≡ read_persists message head
   pub stands : head_in (answers_in message seen).final ≡ Some head
   pub final : is_interim head ≡ false
   pub is_link : IsLink message server seen sent (answers head ∷ []) link
@@ -363,6 +368,16 @@ pub record LinkKeeps (number : ℕ) (bytes : List ℕ) (shut : Bool) (link : Lin
   pub server : link.server ≡ number
   pub closed : link.closed ≡ shut
   pub rest : link.responses.rest ≡ bytes
+
+-- whether the response persists that was read whole
+abbrev pub whole_persists : Request → Item ReadResponse → Bool
+whole_persists message (complete head body trailers size) = read_persists message head
+whole_persists message item = false
+
+-- and the response to this request was read
+pub record LinkEnds (message : Request) (number : ℕ) (bytes : List ℕ) (seen : Sight) (link : Link) : Type 0 where
+  pub keeps : LinkKeeps number bytes seen.shut link
+  pub lasts : link.persists ≡ whole_persists message (answers_in message seen).final
 
 -- the one side that is open is such
 abbrev pub IsOpen : (Link → Type 0) → Option Link → Type 0
@@ -377,12 +392,16 @@ StaysOpen holds old new = ⊥
 -- the side of a server of which all is to be read, for the answer to a HEAD or not
 abbrev pub unread_link : ℕ → Bool → List ℕ → Bool → Link
 unread_link server asked_head bytes closed =
-    record { server = server; asked_head = asked_head; responses = before_all (response asked_head) bytes closed; closed = closed }
+    record { server = server; asked_head = asked_head; persists = false; responses = before_all (response asked_head) bytes closed; closed = closed }
 
--- the parked one: what was heard of it waits
+-- the parked one: nothing was heard of it, or it is kept no more
+abbrev pub silent_link : Bool → ℕ → Option Link
+silent_link true server = Some (unread_link server false [] false)
+silent_link false server = None
+
 abbrev pub parked_link : Option Parked → Sight → Option Link
 parked_link None seen = None
-parked_link (Some parked) seen = Some (unread_link parked.server false seen.server seen.shut)
+parked_link (Some parked) seen = silent_link (is_silent seen.server seen.shut) parked.server
 
 -- What was sent on of what a stage looks for: interim responses, what came of a response that is streamed, and what came of a request that
 -- goes up, behind what earlier asks owed of that.
@@ -410,7 +429,7 @@ HasSide stage seen sent looked side = ⊤
 -- and where an answer is awaited
 abbrev pub AskedSideFor : At → Flow → Doing → Sight → Option Link → Type 0
 AskedSideFor at flow (response_head server how) seen side = IsOpen (ReadsFinal flow.request server seen) side
-AskedSideFor at flow (response_body server how most) seen side = IsOpen (LinkKeeps server (server_left (busy at flow (response_body server how most)) seen) seen.shut) side
+AskedSideFor at flow (response_body server how most) seen side = IsOpen (LinkEnds flow.request server (server_left (busy at flow (response_body server how most)) seen) seen) side
 AskedSideFor at flow doing seen side = side ≡ parked_link at.parked seen
 
 abbrev pub AskedSide : Stage → Sight → Option Link → Type 0
@@ -450,25 +469,27 @@ sent_on (busy at flow doing) sent = sent_for flow doing sent
 sent_on stage sent = []
 
 -- At an end a tunnel or another protocol follows, or the conversation has ended. What stands behind on both sides is kept.
-pub record IsConnecting (connects : Connect) (seen : Sight) (requests : State) (last : Wanted) : Type 0 where
+pub record IsConnecting (at : At) (connects : Connect) (seen : Sight) (requests : State) (side : Option Link) (last : Wanted) : Type 0 where
   pub phase : last ≡ ready.Connects connects.address
   pub keeps : Waiting (drop connects.used seen.client) requests
+  -- the parked side waits still
+  pub parked : side ≡ parked_link at.parked seen
 
 pub record IsUpgraded (flow : Flow) (server : ℕ) (seen : Sight) (requests : State) (side : Option Link) (last : Wanted) : Type 0 where
   pub phase : last ≡ ready.Upgraded flow server
   pub keeps : Keeps seen.client requests
   pub is_open : IsOpen (LinkKeeps server seen.server seen.shut) side
 
-abbrev pub IsLastAt : Option Connect → Sight → State → Wanted → Type 0
-IsLastAt None seen requests last = last ≡ ready.Over
-IsLastAt (Some connects) seen requests last = IsConnecting connects seen requests last
+abbrev pub IsLastAt : At → Option Connect → Sight → State → Option Link → Wanted → Type 0
+IsLastAt at None seen requests side last = last ≡ ready.Over
+IsLastAt at (Some connects) seen requests side last = IsConnecting at connects seen requests side last
 
 abbrev pub IsLastFor : Flow → Doing → Sight → State → Option Link → Wanted → Type 0
 IsLastFor flow (upgraded server) seen requests side last = IsUpgraded flow server seen requests side last
 IsLastFor flow doing seen requests side last = last ≡ ready.Over
 
 abbrev pub IsLast : Terms → Stage → Sight → State → Option Link → Wanted → Type 0
-IsLast terms (idle at) seen requests side last = IsLastAt (connect_in terms.place (request_in seen)) seen requests last
+IsLast terms (idle at) seen requests side last = IsLastAt at (connect_in terms.place (request_in seen)) seen requests side last
 IsLast terms (busy at flow doing) seen requests side last = IsLastFor flow doing seen requests side last
 IsLast terms stage seen requests side last = last ≡ ready.Over
 
@@ -491,7 +512,7 @@ HasGiven looked requests side = ⊤
 abbrev pub PhaseAt : Look Command → Terms → At → State → Option Link → Phase → Stage → Sight → Type 0
 PhaseAt NotYet terms at requests side found stage seen =
     (looked : Wanted) × (sent : SentOn) × (found ≡ phase.Ready looked) × IsReady terms at requests side looked stage seen sent
-    × ((view : View) → seen_of view (so_far terms stage seen) ≡ seen_of view (sent_on stage sent)) × HasGiven looked requests side
+    × ((view : View) → seen_of view (waits_at terms stage seen) ≡ seen_of view (sent_on stage sent)) × HasGiven looked requests side
 PhaseAt (Asks ask) terms at requests side found stage seen = (awaits : Asked) × (found ≡ phase.Asked awaits) × IsAsked terms requests side awaits stage seen
 PhaseAt (Ends owed) terms at requests side found stage seen = (last : Wanted) × (found ≡ phase.Ready last) × IsLast terms stage seen requests side last
 
@@ -504,9 +525,22 @@ abbrev pub HasPlace : Stage → Sight → At → Bool → Type 0
 HasPlace over seen at closed = ⊤
 HasPlace stage seen at closed = IsPlaced (place_of stage) seen at closed
 
+-- where a flow uses a side, none is parked
+abbrev pub NoneParkedFor : At → Doing → Type 0
+NoneParkedFor at (response_head server sent) = at.parked ≡ None
+NoneParkedFor at (response_body server sent most) = at.parked ≡ None
+NoneParkedFor at (coming_down server sent) = at.parked ≡ None
+NoneParkedFor at (upgraded server) = at.parked ≡ None
+NoneParkedFor at doing = ⊤
+
+abbrev pub NoneParked : Stage → Type 0
+NoneParked (busy at flow doing) = NoneParkedFor at doing
+NoneParked stage = ⊤
+
 -- A state that was made on these terms, at this stage and in this sight.
 pub record IsIn (made : Terms) (state : Stream) (stage : Stage) (seen : Sight) : Type 0 where
   pub terms : state.terms ≡ made
+  pub apart : NoneParked stage
   pub place : HasPlace stage seen state.at state.client_closed
   pub phase : PhaseAt (look made stage seen) made state.at state.requests state.side state.phase stage seen
 

@@ -67,7 +67,7 @@ abbrev pub asked_tunnel : Phase → Option Address
 asked_tunnel (phase.Ready (ready.Connects address)) = Some address
 asked_tunnel found = None
 
--- the parked side, while its server is connected
+-- the parked side, while it is kept
 abbrev pub unless_closed : Parked → Option Link → Option ℕ
 unless_closed parked None = None
 unless_closed parked (Some link) = if link.closed then None else Some parked.server
@@ -118,8 +118,7 @@ sequence_left state = left_by state.at state.phase
 -- ---- how many bytes it keeps: what the client's reader keeps, and the reader of the side that a flow uses, the content that has come of a body, and what is held beside it of a message that may yet be streamed, or that
 -- waits for the connection to its server
 -- What does not count is the flow itself with its messages (a response that was given in place of the server's among them),
--- addresses, and the bytes that wait: behind a message, of which a reader says that it does not keep them, and all that was heard of a side
--- that is parked.
+-- addresses, and the bytes that wait behind a message, of which a reader says that it does not keep them. Of a side that is parked nothing is kept.
 
 abbrev pub uses_side : Phase → Bool
 uses_side (phase.Ready (ready.ResponseHead flow server up)) = true

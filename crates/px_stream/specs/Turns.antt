@@ -1,5 +1,5 @@
 -- What the calls of a stream do, in its own fields: an event is heard, an answer is taken, and then it looks once.
-use Rattle.std.specs.Prelude.{◌≡◌, ◌++◌, ℕ, Bool, true, false, List, [], Option, Some, None, ⊤}
+use Rattle.std.specs.Prelude.{◌≡◌, ◌++◌, ◌&&◌, ℕ, Bool, true, false, List, [], Option, Some, None, ⊤}
 use Rattle.px_event.specs.declared.command.Command.{Command}
 use Rattle.px_event.specs.declared.event.Event.{Event}
 use Rattle.px_event.specs.declared.reply.Reply.{Reply}
@@ -11,6 +11,7 @@ use Rattle.px_exchange.specs.declared.place.Place.{Place}
 use Rattle.px_exchange.specs.declared.terms.Terms.{Terms}
 use Rattle.px_exchange.specs.Dials.{connected_owes}
 use Rattle.px_exchange.specs.declared.taken.Taken.{Taken}
+use Rattle.px_exchange.specs.Endings.{sent_persists}
 use Rattle.px_exchange.specs.Replies.{taken_at_body_of, taken_at_head_of, taken_at_request_body, taken_at_request_head}
 use Rattle.px_exchange.specs.Requests.{is_head}
 use Rattle.px_message.specs.declared.flow.Flow.{Flow}
@@ -18,6 +19,7 @@ use Rattle.px_message.specs.declared.request.Request.{Request}
 use Rattle.px_message.specs.declared.response.Response.{Response}
 use Rattle.px_chain.specs.Chain.{sequence, stops, turn_dial, turn_taken_answer, turn_taken_body, turn_taken_given, turn_taken_head, turn_taken_returned, turn_taken_whole}
 use Rattle.px_chain.specs.Coming.{allowed_by}
+use Rattle.px_chain.specs.Keeping.{is_silent}
 use Rattle.px_chain.specs.Going.{allowed_up_by}
 use Rattle.px_chain.specs.Sights.{Sight, server_in, server_parked}
 use Rattle.px_chain.specs.Stages.{At, Doing, Parked, Stage, busy, coming_down, idle, response_body, response_head, upgraded}
@@ -45,25 +47,43 @@ abbrev pub taken_turn : Option (Taken Response) → (Taken Response → Turn Sta
 taken_turn None goes = stops
 taken_turn (Some taken) goes = goes taken
 
--- in this sight, beside this open side, and by whether the client has closed
-abbrev pub asked_turn : Terms → At → Asked → Sight → Used → Bool → Timed Reply → Turn Stage Command
-asked_turn terms at (asked.Idle flow expected) seen used closed answer =
+-- The side that a flow used may be kept behind the response to this request that was read on it: nothing stands behind that, its server has not closed, and both messages persist.
+abbrev pub link_keeps_on : Request → Link → Bool
+link_keeps_on message link = is_silent link.responses.rest link.closed && (sent_persists message && link.persists)
+
+abbrev pub keeps_on : Request → Option Link → Bool
+keeps_on message None = false
+keeps_on message (Some link) = link_keeps_on message link
+
+-- it is read from its beginning by the next flow
+abbrev pub new_side : Option Link → Option Link
+new_side side = side_with (λ link. unread_link link.server false [] false) side
+
+-- the place without a parked side that is kept no more
+abbrev pub with_open : At → Option Link → At
+with_open at None = record at { parked = None }
+with_open at (Some link) = at
+
+-- in this sight, beside this open side, which is used or parked so, and by whether the client has closed
+abbrev pub asked_turn : Terms → At → Asked → Sight → Option Link → Used → Bool → Timed Reply → Turn Stage Command
+asked_turn terms at (asked.Idle flow expected) seen side used closed answer =
     turn_taken_head at flow expected (allowed_up_by terms.streams answer.value) (taken_at_request_head flow.request answer.value) answer.moment seen
-asked_turn terms at (asked.RequestBody flow) seen used closed answer =
+asked_turn terms at (asked.RequestBody flow) seen side used closed answer =
     turn_taken_body terms.place at flow (taken_at_request_body flow.request answer.value) answer.moment seen
-asked_turn terms at (asked.Connection flow server up) seen used closed answer = turn_dial terms.place at flow (sent_by up) answer closed
-asked_turn terms at (asked.ResponseHead flow server up) seen used closed answer =
+asked_turn terms at (asked.Connection flow server up) seen side used closed answer = turn_dial terms.place at flow (sent_by up) answer closed
+asked_turn terms at (asked.ResponseHead flow server up) seen side used closed answer =
     taken_turn (taken_at_head_of flow.response answer.value) (λ taken. turn_taken_answer at flow server (sent_of up) (allowed_by terms.streams answer.value) taken answer.moment used closed)
-asked_turn terms at (asked.ResponseBody flow server up) seen used closed answer =
-    taken_turn (taken_at_body_of flow.response answer.value) (λ taken. turn_taken_whole at flow server (sent_of up) taken answer.moment used closed)
-asked_turn terms at (asked.GivenHead flow) seen used closed answer =
+asked_turn terms at (asked.ResponseBody flow server up) seen side used closed answer =
+    taken_turn (taken_at_body_of flow.response answer.value)
+    (λ taken. turn_taken_whole terms.place at flow server (sent_of up) (keeps_on flow.request side) taken answer.moment used closed)
+asked_turn terms at (asked.GivenHead flow) seen side used closed answer =
     taken_turn (taken_at_head_of flow.response answer.value) (λ taken. turn_taken_given at flow taken answer.moment used closed)
-asked_turn terms at (asked.GivenBody flow) seen used closed answer =
+asked_turn terms at (asked.GivenBody flow) seen side used closed answer =
     taken_turn (taken_at_body_of flow.response answer.value) (λ taken. turn_taken_returned at flow taken answer.moment used closed)
 
-abbrev pub turned_by : Terms → At → Option Asked → Sight → Used → Bool → Timed Reply → Turn Stage Command
-turned_by terms at None seen used closed answer = stops
-turned_by terms at (Some found) seen used closed answer = asked_turn terms at found seen used closed answer
+abbrev pub turned_by : Terms → At → Option Asked → Sight → Option Link → Used → Bool → Timed Reply → Turn Stage Command
+turned_by terms at None seen side used closed answer = stops
+turned_by terms at (Some found) seen side used closed answer = asked_turn terms at found seen side used closed answer
 
 -- The sight shows the side that is used there, and whether the client has closed.
 abbrev pub used_at : At → Asked → Sight → Used
@@ -86,7 +106,7 @@ abbrev pub is_dial : Asked → Bool
 is_dial (asked.Connection flow server up) = true
 is_dial found = false
 
--- A server that was dialled has sent nothing yet; of one that was parked all that waits is to be read.
+-- A server that was dialled has sent nothing yet, nor has one that was parked.
 abbrev pub opened_side : Bool → ℕ → Bool → Option Link → Option Link
 opened_side true server asked_head side = Some (unread_link server asked_head [] false)
 opened_side false server asked_head side = side_with (λ link. unread_link link.server asked_head link.responses.rest link.closed) side
@@ -107,6 +127,12 @@ abbrev pub side_behind : Bool → Stage → Option Link → Option Link
 side_behind dials (idle at) side = unless_parked at.parked side
 side_behind dials (busy at flow doing) side = side_for dials at flow doing side
 side_behind dials stage side = side
+
+-- Behind a flow that used a side the next one reads it from its beginning, where it is kept; any other answer leaves it as it was.
+abbrev pub SideTurned : Asked → Wanted → Option Link → Option Link → Type 0
+SideTurned (asked.ResponseBody flow server up) ready.Idle side later = later ≡ new_side side
+SideTurned found ready.Over side later = ⊤
+SideTurned found looked side later = later ≡ side
 
 -- what is held of a response's body where it is first looked for, of the response that was asked about
 abbrev pub IsHeldBehind : Bool → Option Response → Response → Option ℕ → Option Held → Type 0
@@ -189,15 +215,19 @@ pub record Turned (terms : Terms) (stage : Stage) (seen : Sight) (at : At) (requ
 pub record TurnsTo (before after : Stream) (moment : ℕ) (reply : Reply) (found : Asked) (looked : Wanted) (out longer : List Command) : Type 0 where
   pub terms : after.terms ≡ before.terms
   pub client : after.client_closed ≡ before.client_closed
-  pub gives : (seen : Sight) → Shows before.at found (used_in before.side) before.client_closed seen →
-      longer ≡ out ++ turn_gives before.at found reply (asked_turn before.terms before.at found seen (used_in before.side) before.client_closed (record { moment = moment; value = reply })).owed
-  pub leads : (seen : Sight) → Shows before.at found (used_in before.side) before.client_closed seen →
-      stage_of after.at looked ≡ sequence (asked_turn before.terms before.at found seen (used_in before.side) before.client_closed (record { moment = moment; value = reply })).stage
+  pub gives : (seen : Sight) → Shows (with_open before.at before.side) found (used_in before.side) before.client_closed seen →
+      longer ≡ out ++ turn_gives before.at found reply
+      (asked_turn before.terms (with_open before.at before.side) found seen before.side (used_in before.side) before.client_closed (record { moment = moment; value = reply })).owed
+  pub leads : (seen : Sight) → Shows (with_open before.at before.side) found (used_in before.side) before.client_closed seen →
+      stage_of after.at looked
+      ≡ sequence (asked_turn before.terms (with_open before.at before.side) found seen before.side (used_in before.side) before.client_closed (record { moment = moment; value = reply })).stage
   pub content : content_in looked ≡ []
   pub held : FirstHeld found looked
   pub up : KeepsUp found looked
   pub requests : after.requests ≡ requests_behind (stage_of after.at looked) before.requests
-  pub side : after.side ≡ side_behind (is_dial found) (stage_of after.at looked) before.side
+  pub middle : Option Link
+  pub turned_side : SideTurned found looked before.side middle
+  pub side : after.side ≡ side_behind (is_dial found) (stage_of after.at looked) middle
 
 -- It looked once.
 pub record LooksOnce (before after : Stream) (moment : ℕ) (looked : Wanted) (out longer : List Command) : Type 0 where
@@ -206,10 +236,10 @@ pub record LooksOnce (before after : Stream) (moment : ℕ) (looked : Wanted) (o
   pub client : after.client_closed ≡ before.client_closed
   pub looks : LookFound before.terms before.at (used_in before.side) moment before.client_closed looked before.requests after.requests before.side after.side out longer after.phase
 
--- Its readers heard this event.
-pub record Hears (before after : Stream) (event : Event) : Type 0 where
+-- Its readers heard this event, while a flow uses the open side or none does.
+pub record Hears (uses : Bool) (before after : Stream) (event : Event) : Type 0 where
   pub terms : after.terms ≡ before.terms
   pub at : after.at ≡ before.at
   pub client : after.client_closed ≡ closes_client event before.client_closed
   pub requests : after.requests ≡ requests_take event before.requests
-  pub side : after.side ≡ side_takes event before.side
+  pub side : after.side ≡ side_takes uses event before.side

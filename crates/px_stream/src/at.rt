@@ -18,7 +18,7 @@ impl Model for Parked {
 }
 
 /// The number of a flow, how many servers were dialled before, which is the number of the next one, and the side that waits for a
-/// flow, while none uses one. In a contract it is where the chain's stage stands.
+/// flow, while none uses one. In a contract it is where the chain's stage stands. A side that is kept no more stays in it up to the next answer.
 #[derive(Debug, Drop)]
 pub struct At {
     pub flow: u32,

@@ -20,17 +20,17 @@
 //! was sent (`Wanted::Upgraded`). Whoever goes on takes out what neither side's reader used (`Stream::into_rests`).
 //!
 //! Flows may follow something else over the same events, and something else may follow them: so each call says what it does at whatever
-//! place of a walk the stream stands (`specs/Anywhere.antt`), `begin` starts one with what was not used before, and `go_on_with` one
-//! whose flow's request others have read.
+//! place of a walk the stream stands (`specs/Anywhere.antt`), `begin` starts one with what was not used before of the client's bytes and of a parked side's (where such bytes wait, that side is closed), and
+//! `go_on_with` starts one whose flow's request others have read.
 //!
 //! Where the server is reached through another proxy, that proxy is what is dialled, and whoever goes on asks it for a tunnel to
-//! where `Stream::leads_to` says. Meanwhile the dial is awaited still: `hear_waiting` hears what comes, and gives nothing. At last
-//! the way stands, and `reach` is told what has come behind the proxy's answer; or the dial is answered with a refusal.
+//! where `Stream::leads_to` says. Meanwhile the dial is awaited still: `hear_waiting` hears what comes, and gives nothing, since a parked side was closed
+//! right behind that dial. At last the way stands, and `reach` is told what has come behind the proxy's answer; or the dial is answered with a refusal.
 //!
-//! A place may have a server's side that is connected before its first flow: it is parked. Its bytes and its close are heard and not
-//! read, until a request goes where it is connected to: that request is sent to it with no dial, and all that was heard of it is what
-//! its responses begin with. A request that goes elsewhere is dialled for, and the parked side is closed right behind that dial; so it
-//! is where the conversation ends before. One server's side at most is open: the one that a flow uses, or the one that is parked.
+//! Behind a flow its server's side is parked, where both messages persist, nothing stands behind the response, and the client's connection goes on; a place may have one that is connected before its first flow.
+//! A request that goes where it is connected to is sent to it with no dial. While no flow uses it nothing is read of it: at its first byte it is closed, and by that, or by its own close, it is kept no more
+//! (`specs/Heard.antt`). A request that goes elsewhere is dialled for, and the parked side is closed right behind that dial; so it is where the conversation ends before. One server's side at most is open: the
+//! one that a flow uses, or the one that is parked.
 //!
 //! A response may be streamed: sent as it comes, framed as it was read, with no question about it behind its head's. Whether it is may show only as its
 //! body comes, where the reply about its head allows a size and the body has no stated length, or a larger one: what its parts say is then held beside
@@ -41,8 +41,8 @@
 //! one text, of which each call sends a piece: so what is given and what is owed are equal in each view (`specs/Passes.antt`).
 //!
 //! A request may be streamed as well: sent as it comes, framed as it was read, with no question about it behind its head's. While it may yet be, what its parts say
-//! is held beside its content, and so is the request as its head was read (`Wanted::RequestBody`, `going`). Where it is, it goes to the side that is parked, unless
-//! something was heard of that (then it is kept until it is whole), or its server is dialled at once, and the text of what came waits for that (`Asked::Connection`). From there on it goes up (`Sending::GoingUp`): its head was sent with
+//! is held beside its content, and so is the request as its head was read (`Wanted::RequestBody`, `going`). Where it is, it goes to the side that is parked,
+//! or its server is dialled at once, and the text of what came waits for that (`Asked::Connection`). From there on it goes up (`Sending::GoingUp`): its head was sent with
 //! what was held, and later calls send what each brought, while its response is looked for, asked about, or comes down; of what was sent nothing is kept. So each call first sends
 //! on what came of a request (`passing::request`), then passes what came of a response, and then looks. Say that a hook allows 4 bytes of a request in chunks: `3` CRLF `abc`
 //! CRLF is held, and with `2` CRLF `de` CRLF behind it the server is dialled; the reply has the head and both chunks sent in one text, and `0` CRLF CRLF is the last

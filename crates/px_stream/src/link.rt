@@ -1,24 +1,27 @@
-//! The server's side that is open: the one that a flow uses, with the responses that come on it, or the one that is parked.
-ghost use Rattle.std.specs.Prelude.{◌≡◌, ◌==◌, [], false, OnOk, IfOk};
-ghost use Rattle.px_read.specs.Reader.{keeps};
+//! The server's side that is open: the one that a flow uses, with the responses that come on it, or the one that is parked, of which
+//! nothing is heard: at its first byte it is closed, and let go of.
+ghost use Rattle.std.specs.Prelude.{◌≡◌, ◌&&◌, [], false, OnOk, IfOk};
+ghost use Rattle.px_exchange.specs.Endings.{sent_persists};
+ghost use Rattle.px_chain.specs.Keeping.{is_silent};
 ghost use Rattle.px_stream.specs.Anywhere.{unheard};
-ghost use Rattle.px_stream.specs.GoingUp.{silent_link, silent_side};
-ghost use Rattle.px_stream.specs.Heard.{IsUnshut, SideAgrees, feeds, link_closes, link_hears, side_with};
+ghost use Rattle.px_stream.specs.Heard.{IsUnshut, SideAgrees, feeds, is_of, link_closes, link_hears, side_with, stray_by, unless_closed_by, unless_heard};
 ghost use Rattle.px_stream.specs.Stands.{unread_link, used_in};
 ghost use Rattle.px_stream.specs.Tells.{closed_in, side_rest};
-ghost use Rattle.px_stream.specs.Turns.{opened_side};
+ghost use Rattle.px_stream.specs.Turns.{keeps_on, new_side, opened_side};
 
 use crate::at::Parked;
-use px_exchange::ending::Used;
+use px_exchange::ending::{Used, sent_persists};
+use px_message::Request;
 use px_read::MessageReader;
 use px_text::{Bytes, NoMemory};
 use std::alloc::Global;
 
-/// The side of a server.
+/// The side of a server. Whether the response that comes on it persists is known once its head was read.
 #[derive(Debug, Drop)]
 pub struct Link {
     pub server: u32,
     pub asked_head: bool,
+    pub persists: bool,
     pub responses: MessageReader,
     pub closed: bool,
 }
@@ -31,6 +34,7 @@ impl Link {
         Link {
             server,
             asked_head,
+            persists: false,
             responses: MessageReader::response(alloc, asked_head),
             closed: false,
         }
@@ -68,20 +72,6 @@ impl Link {
         self.responses.feed(bytes)
     }
 
-    // Whether nothing waits of it, and its server has not closed.
-    fn is_silent(&self) -> bool
-        ensures { result ≡ silent_link self.now }
-    {
-        self.is_empty() && !self.closed
-    }
-
-    // Whether nothing waits of it.
-    fn is_empty(&self) -> bool
-        ensures { result ≡ (keeps self.now.responses == 0) }
-    {
-        self.responses.kept() == 0
-    }
-
     // The close of the server of that number.
     fn close(&mut self, server: u32)
         ensures { self.new ≡ link_closes server self.old }
@@ -103,7 +93,7 @@ pub fn unheard(alloc: Global, parked: &Option<Parked>) -> Option<Link>
     }
 }
 
-/// The side that a request went to, for its answer: nothing was heard of a server that was dialled, and of a parked one all that waits is to be read.
+/// The side that a request went to, for its answer: nothing was heard yet of a server that was dialled, nor of a parked one.
 pub fn open(
     alloc: Global,
     dialled: bool,
@@ -178,14 +168,84 @@ pub fn is_closed(side: &Option<Link>) -> bool
     }
 }
 
-/// Whether nothing waits of the open side, and its server has not closed.
-pub fn is_silent(side: &Option<Link>) -> bool
-    ensures { result ≡ silent_side side.now }
+/// The number of the parked side, where these are bytes of it: then it is kept no more, and is to be closed.
+pub fn hear_stray(side: &mut Option<Link>, server: u32, bytes: &Bytes) -> Option<u32>
+    ensures stray { result ≡ stray_by server bytes.now side.old }
+    ensures side { side.new ≡ unless_heard server bytes.now side.old }
+{
+    if bytes.is_empty() {
+        return None;
+    }
+    let parked = is_of(server, side);
+    if !parked {
+        return None;
+    }
+    *side = None;
+    Some(server)
+}
+
+/// The close of the server of that number, where its side is parked: it is kept no more.
+pub fn close_stray(side: &mut Option<Link>, server: u32)
+    ensures { side.new ≡ unless_closed_by server side.old }
+{
+    let parked = is_of(server, side);
+    if parked {
+        *side = None;
+    }
+}
+
+// Whether the open side is the one of this server.
+fn is_of(server: u32, side: &Option<Link>) -> bool
+    ensures { result ≡ is_of server side.now }
 {
     match side {
-        Some(link) => link.is_silent(),
-        None => true,
+        Some(link) => server == link.server,
+        None => false,
     }
+}
+
+/// Makes the side that a flow used new for the next one. Whether it may be kept for that, behind the response to this request that was read on it: nothing
+/// stands behind that, its server has not closed, and both messages persist.
+pub fn renew(alloc: Global, side: &mut Option<Link>, request: &Request) -> Result<bool, NoMemory>
+    ensures keeps { IfOk result (λ keeps. keeps ≡ keeps_on request.now side.old) }
+    ensures side { OnOk result (side.new ≡ new_side side.old) }
+{
+    match side.take() {
+        Some(link) => {
+            let Link {
+                server,
+                persists,
+                responses,
+                closed,
+                ..
+            } = link;
+            let rest = responses.into_rest()?;
+            *side = Some(Link::new(alloc, server, false));
+            let silent = is_silent(&rest, closed);
+            keeps_by(silent, persists, request)
+        }
+        None => Ok(false),
+    }
+}
+
+// Whether nothing came of a side, and it has not closed.
+fn is_silent(bytes: &Bytes, closed: bool) -> bool
+    ensures { result ≡ is_silent bytes.now closed }
+{
+    if bytes.is_empty() {
+        return !closed;
+    }
+    false
+}
+
+fn keeps_by(silent: bool, persists: bool, request: &Request) -> Result<bool, NoMemory>
+    ensures { IfOk result (λ keeps. keeps ≡ (silent && (sent_persists request.now && persists))) }
+{
+    if !silent {
+        return Ok(false);
+    }
+    let sent = sent_persists(request)?;
+    Ok(sent && persists)
 }
 
 /// What waits of the open side, where it is asked for.

@@ -4,8 +4,9 @@ ghost use Rattle.std.specs.Prelude.{◌≡◌, ◌<◌, ◌++◌, ◌||◌, leng
 ghost use Rattle.px_exchange.specs.Bodies.{IsReading};
 ghost use Rattle.px_stream.specs.Comings.{sends_text};
 ghost use Rattle.px_stream.specs.GoingUp.{is_rising};
-ghost use Rattle.px_stream.specs.Passes.{DownPassed, HeldPassed, HoldsMore, MayPass, Passed, SaysMore, StartedDown, WentDown, ended_gives, ended_leads, is_passing, streams_by};
+ghost use Rattle.px_stream.specs.Passes.{DownPassed, HeldPassed, HoldsMore, MayPass, Passed, SaysMore, SideCame, StartedDown, WentDown, ended_gives, ended_leads, is_passing, streams_by};
 ghost use Rattle.px_stream.specs.Stands.{IsOpen, IsSome, StaysOpen, stage_of};
+ghost use Rattle.px_stream.specs.Turns.{keeps_on};
 
 use crate::at::At;
 use crate::coming::{Held, as_streamed, framed, read_held, read_on, streams};
@@ -13,15 +14,15 @@ use crate::ending::end_sent;
 use crate::going::Sending;
 use crate::link::{self, Link};
 use crate::phase::Wanted;
-use crate::turning::count_flow;
+use crate::turning::{count_flow, park};
 use px_event::{Command, Side};
-use px_exchange::Boxed;
 use px_exchange::asked::is_head;
 use px_exchange::body::{Progress, read_body};
 use px_exchange::content::Content;
 use px_exchange::ending::finish_streamed;
 use px_exchange::said::send;
 use px_exchange::terms::Now;
+use px_exchange::{Boxed, Place};
 use px_message::{Flow, Response, Shared};
 use px_parts::write_end;
 use px_text::{Bytes, NoMemory};
@@ -35,6 +36,7 @@ pub use request::pass_request;
 
 /// Goes on without an answer, once. Where a flow is finished, what is looked for next is the head of a request, of which nothing was read yet.
 pub fn pass(
+    place: &Place,
     now: Now,
     at: &mut At,
     side: &mut Option<Link>,
@@ -42,7 +44,7 @@ pub fn pass(
     out: &mut Vec<Command>,
 ) -> Result<Wanted, NoMemory>
     requires may { MayPass at.old ready side.old }
-    ensures passes { IfOk result (λ next. Passed at.old at.new now.moment now.parked now.client_closed ready next side.old side.new out.old.items out.new.items) }
+    ensures passes { IfOk result (λ next. Passed place.now at.old at.new now.moment now.parked now.client_closed ready next side.old side.new out.old.items out.new.items) }
 {
     match ready {
         Wanted::ResponseBody {
@@ -62,7 +64,7 @@ pub fn pass(
                     body,
                     held,
                 };
-                pass_held(now, at, side, coming, out)
+                pass_held(place, now, at, side, coming, out)
             }
             None => Ok(Wanted::ResponseBody {
                 flow,
@@ -78,7 +80,7 @@ pub fn pass(
             server,
             up,
             sent,
-        } => pass_coming(now, at, side, flow, server, up, sent, out),
+        } => pass_coming(place, now, at, side, flow, server, up, sent, out),
         other => Ok(other),
     }
 }
@@ -96,6 +98,7 @@ struct Undecided {
 
 // Reads a body that may yet be streamed. Where it is, what came of it is sent.
 fn pass_held(
+    place: &Place,
     now: Now,
     at: &mut At,
     side: &mut Option<Link>,
@@ -105,7 +108,7 @@ fn pass_held(
     requires few { at.old.flow < 1000000 }
     requires given { IsSome coming.flow.response }
     requires reads { IsOpen (λ link. IsReading link.responses) side.old }
-    ensures { IfOk result (λ next. HeldPassed at.old at.new now.moment now.parked now.client_closed coming.flow coming.server coming.up coming.most coming.body coming.held next side.old side.new out.old.items out.new.items) }
+    ensures { IfOk result (λ next. HeldPassed place.now at.old at.new now.moment now.parked now.client_closed coming.flow coming.server coming.up coming.most coming.body coming.held next side.old side.new out.old.items out.new.items) }
 {
     let mut coming = coming;
     let progress = read_more(side, &mut coming)?;
@@ -119,7 +122,7 @@ fn pass_held(
             ..
         } = coming;
         drop(body);
-        return start_down(now, at, flow, server, up, held, progress, out);
+        return start_down(place, now, at, side, flow, server, up, held, progress, out);
     }
     let Undecided {
         flow,
@@ -169,8 +172,10 @@ fn is_streamed(coming: &Undecided) -> bool
 
 // The first that is sent of a streamed response: its head, and what was held of its body.
 fn start_down(
+    place: &Place,
     now: Now,
     at: &mut At,
+    side: &mut Option<Link>,
     flow: Boxed<Flow>,
     server: u32,
     up: Sending,
@@ -180,7 +185,7 @@ fn start_down(
 ) -> Result<Wanted, NoMemory>
     requires few { at.old.flow < 1000000 }
     requires given { IsSome flow.response }
-    ensures { IfOk result (λ next. StartedDown at.old at.new now.moment now.parked now.client_closed flow server up held.read progress held.said.items next out.old.items out.new.items) }
+    ensures { IfOk result (λ next. StartedDown place.now at.old at.new now.moment now.parked now.client_closed flow server up held.read progress held.said.items next side.old side.new out.old.items out.new.items) }
 {
     let flow = as_streamed(now.alloc, flow)?;
     let Held { read, said } = held;
@@ -192,11 +197,14 @@ fn start_down(
     write_response_head(&sent, &mut text)?;
     text.extend_from_slice(said.as_slice())?;
     let sent = Shared::new(now.alloc, sent)?;
-    go_down(now, at, flow, server, up, sent, progress, text, out)
+    go_down(
+        place, now, at, side, flow, server, up, sent, progress, text, out,
+    )
 }
 
 // Reads on a body that is streamed, and sends what came.
 fn pass_coming(
+    place: &Place,
     now: Now,
     at: &mut At,
     side: &mut Option<Link>,
@@ -209,11 +217,13 @@ fn pass_coming(
     requires few { at.old.flow < 1000000 }
     requires given { IsSome flow.response }
     requires reads { IsOpen (λ link. IsReading link.responses) side.old }
-    ensures { IfOk result (λ next. DownPassed at.old at.new now.moment now.parked now.client_closed flow server up sent next side.old side.new out.old.items out.new.items) }
+    ensures { IfOk result (λ next. DownPassed place.now at.old at.new now.moment now.parked now.client_closed flow server up sent next side.old side.new out.old.items out.new.items) }
 {
     let mut text = Vec::new(now.alloc);
     let progress = read_side(side, &mut text)?;
-    go_down(now, at, flow, server, up, sent, progress, text, out)
+    go_down(
+        place, now, at, side, flow, server, up, sent, progress, text, out,
+    )
 }
 
 // Reads the open side, and adds what its parts say.
@@ -229,8 +239,10 @@ fn read_side(side: &mut Option<Link>, text: &mut Vec<u8>) -> Result<Progress, No
 
 // Sends what came of a streamed response. Where it is whole, the flow is finished.
 fn go_down(
+    place: &Place,
     now: Now,
     at: &mut At,
+    side: &mut Option<Link>,
     flow: Boxed<Flow>,
     server: u32,
     up: Sending,
@@ -241,14 +253,14 @@ fn go_down(
 ) -> Result<Wanted, NoMemory>
     requires few { at.old.flow < 1000000 }
     requires given { IsSome flow.response }
-    ensures { IfOk result (λ next. WentDown at.old at.new now.moment now.parked now.client_closed flow server up sent progress text.items next out.old.items out.new.items) }
+    ensures { IfOk result (λ next. WentDown place.now at.old at.new now.moment now.parked now.client_closed flow server up sent progress text.items next side.old side.new out.old.items out.new.items) }
 {
     match progress {
         Progress::Whole(trailers) => {
             let mut text = text;
             write_end(&sent.get().fields, &trailers, &mut text)?;
             send_text(text, out)?;
-            end_down(now, at, flow, up, sent, out)
+            end_down(place, now, at, side, flow, server, up, sent, out)
         }
         _ => {
             send_text(text, out)?;
@@ -275,25 +287,28 @@ fn send_text(text: Vec<u8>, out: &mut Vec<Command>) -> Result<(), NoMemory>
 
 // Finishes the flow of a streamed response, all of which was sent. Its conversation ends where its request is not whole.
 fn end_down(
+    place: &Place,
     now: Now,
     at: &mut At,
+    side: &mut Option<Link>,
     flow: Boxed<Flow>,
+    server: u32,
     up: Sending,
     sent: Shared<Response>,
     out: &mut Vec<Command>,
 ) -> Result<Wanted, NoMemory>
     requires few { at.old.flow < 1000000 }
     requires given { IsSome flow.response }
-    ensures gives { OnOk result (out.new.items ≡ out.old.items ++ ended_gives at.old.flow flow up flow.response sent now.moment now.parked now.client_closed) }
-    ensures leads { IfOk result (λ next. stage_of at.new next ≡ ended_leads at.old flow up flow.response sent) }
+    ensures gives { OnOk result (out.new.items ≡ out.old.items ++ ended_gives at.old.flow flow up flow.response sent (keeps_on flow.request side.old) now.moment now.parked now.client_closed) }
+    ensures leads { IfOk result (λ next. stage_of at.new next ≡ ended_leads place.now at.old flow server up flow.response sent (keeps_on flow.request side.old)) }
+    ensures side { IfOk result (λ next. SideCame next side.old side.new) }
 {
     match up {
-        Sending::All => end_whole(now, at, flow, sent, out),
+        Sending::All => end_whole(place, now, at, side, flow, server, sent, out),
         Sending::GoingUp(request) => {
             drop(request);
             drop(sent);
             end_sent(now, flow, out)?;
-            at.parked = None;
             Ok(Wanted::Over)
         }
     }
@@ -301,31 +316,38 @@ fn end_down(
 
 // So of a flow whose request was sent.
 fn end_whole(
+    place: &Place,
     now: Now,
     at: &mut At,
+    side: &mut Option<Link>,
     flow: Boxed<Flow>,
+    server: u32,
     sent: Shared<Response>,
     out: &mut Vec<Command>,
 ) -> Result<Wanted, NoMemory>
     requires few { at.old.flow < 1000000 }
     requires given { IsSome flow.response }
-    ensures gives { OnOk result (out.new.items ≡ out.old.items ++ ended_gives at.old.flow flow Sending.All flow.response sent now.moment now.parked now.client_closed) }
-    ensures leads { IfOk result (λ next. stage_of at.new next ≡ ended_leads at.old flow Sending.All flow.response sent) }
+    ensures gives { OnOk result (out.new.items ≡ out.old.items ++ ended_gives at.old.flow flow Sending.All flow.response sent (keeps_on flow.request side.old) now.moment now.parked now.client_closed) }
+    ensures leads { IfOk result (λ next. stage_of at.new next ≡ ended_leads place.now at.old flow server Sending.All flow.response sent (keeps_on flow.request side.old)) }
+    ensures side { IfOk result (λ next. SideCame next side.old side.new) }
 {
     let Some(response) = &flow.response else {
         unreachable!()
     };
     let response = response.try_clone()?;
+    let index = at.flow;
+    let keeps = link::renew(now.alloc, side, flow.request.get())?;
+    park(place, at, keeps, server, &flow)?;
     let stays = finish_streamed(
         now,
-        at.flow,
+        index,
         flow,
         response.get(),
         sent.get(),
         now.parked,
+        keeps,
         out,
     )?;
-    at.parked = None;
     Ok(count_flow(at, stays))
 }
 

@@ -1,12 +1,13 @@
 //! What the reader of a server's side has to give of the head of a final response.
 ghost use Rattle.std.specs.Prelude.{◌≡◌, IfOk, OnOk};
-ghost use Rattle.px_stream.specs.Responses.{IsKept, NextBegun, ReadsAnswer, came_of};
+ghost use Rattle.px_stream.specs.Responses.{IsKept, NextBegun, ReadsAnswer, ReadsHead, came_of, noting};
 
 use crate::link::Link;
 use px_event::Command;
+use px_exchange::ending::read_persists;
 use px_exchange::said::send_on;
 use px_exchange::texts::is_interim;
-use px_message::Fault;
+use px_message::{Fault, Request};
 use px_read::{MessageReader, Part, ResponseHead};
 use px_text::NoMemory;
 use std::alloc::Global;
@@ -20,8 +21,36 @@ pub enum FinalHead {
     Bad(Fault),
 }
 
-/// Reads up to the head of the final response. Interim responses are sent on to a client that knows them.
-pub fn read_answer(
+/// Reads up to the head of the final response to this request, and notes whether that response persists.
+pub fn read_head(
+    alloc: Global,
+    link: &mut Link,
+    request: &Request,
+    sends: bool,
+    out: &mut Vec<Command>,
+) -> Result<FinalHead, NoMemory>
+    requires kept { IsKept link.old }
+    ensures { IfOk result (λ answer. ReadsHead request.now answer sends link.old out.old.items link.new out.new.items) }
+{
+    let answer = read_answer(alloc, link, sends, out)?;
+    note(link, request, &answer);
+    Ok(answer)
+}
+
+fn note(link: &mut Link, request: &Request, answer: &FinalHead)
+    ensures { link.new ≡ noting request.now answer.now link.old }
+{
+    match answer {
+        FinalHead::Head(head) => {
+            link.persists = read_persists(request, head);
+        }
+        FinalHead::Missing => {}
+        FinalHead::Bad(_) => {}
+    }
+}
+
+// Reads up to the head of the final response. Interim responses are sent on to a client that knows them.
+fn read_answer(
     alloc: Global,
     link: &mut Link,
     sends: bool,

@@ -3,9 +3,9 @@
 //! Each event goes to the reader of its side. Then the flow goes on as far as it needs no answer, where a response is streamed, and looks once: where
 //! it finds an ask it waits, and where it finds the end it says what is owed there. A reply leads to what is looked for next; where a flow is finished that is the next one's head.
 //!
-//! One server's side is open at most: the flow's own, or one that is parked, which is heard and not read, until a request goes there, or
-//! another server is dialled.
-ghost use Rattle.std.specs.Prelude.{◌≡◌, ◌≤◌, ◌<◌, ◌+◌, ◌-◌, ◌^◌, ℕ, List, [], ⊤, true, false, None, IfOk, OnOk, min, option_map};
+//! One server's side is open at most: the flow's own, or one that is parked, of which nothing is read, until a request goes there,
+//! another server is dialled, or a byte or the close of it comes.
+ghost use Rattle.std.specs.Prelude.{◌≡◌, ◌≤◌, ◌<◌, ◌+◌, ◌-◌, ◌^◌, ◌++◌, ℕ, List, [], ⊤, true, false, None, IfOk, OnOk, min, option_map};
 ghost use Rattle.px_event.specs.Chain.{Timed};
 ghost use Rattle.px_event.specs.Layer.{AsksOnly, MayAnswer};
 ghost use Rattle.px_event.specs.declared.event.Event.{Event as Heard};
@@ -16,14 +16,14 @@ ghost use Rattle.px_exchange.specs.declared.terms.Terms.{Terms as Made};
 ghost use Rattle.px_chain.specs.Chain.{begin as first, look as look_at, parked_of};
 ghost use Rattle.px_chain.specs.Sights.{Standing, sight_over};
 ghost use Rattle.px_chain.specs.Stages.{At as Stood, busy, idle};
-ghost use Rattle.px_stream.specs.Heard.{SideAgrees};
+ghost use Rattle.px_stream.specs.Heard.{SideAgrees, parked_behind, shut_if, shut_waiting, stray_in};
 ghost use Rattle.px_stream.specs.Anywhere.{Begins, GoesOnWith, HearsWaiting, IsInSequence, IsNew, Reaches, ResumesAnywhere, Somewhere, TakesAnywhere, doing_by};
 ghost use Rattle.px_stream.specs.Rests.{LeavesRests};
 ghost use Rattle.px_stream.specs.Stands.{IsAt, IsSome, awaited_in, awaits, is_last, stage_of, used_in};
 ghost use Rattle.px_stream.specs.Tells.{KeepsLittle, keeps_no_body, keeps_no_request, keeps_no_response, side_keeps, IsDialling, IsSideBelow, asked_tunnel, dialled_flow, is_end, is_idle, led_by, led_to, open_parked, outcome_at, outcome_in, phase_flow, sequence_left, server_dialled, side_rest, stream_keeps, upgraded_side, uses_side};
-ghost use Rattle.px_stream.specs.GoingUp.{GoesUpOnce, MayGoUp, MayTakeSide};
+ghost use Rattle.px_stream.specs.GoingUp.{GoesUpOnce, MayGoUp};
 ghost use Rattle.px_stream.specs.Passes.{Advances, MayPass, PassesOnce, is_passing};
-ghost use Rattle.px_stream.specs.Turns.{Hears, LooksOnce, TurnsTo, is_dial, requests_behind, side_behind};
+ghost use Rattle.px_stream.specs.Turns.{Hears, LooksOnce, TurnsTo, is_dial, requests_behind, side_behind, with_open};
 ghost use Rattle.px_stream.specs.Looks.{MayLook};
 
 use crate::at::{At, Parked};
@@ -36,9 +36,10 @@ use crate::passing::{is_passing, pass, pass_request, sends_on};
 use crate::phase::{Asked, Phase, Wanted};
 use crate::sizes::{content_len, held_len, side_size, uses_side};
 use crate::turning::turn;
-use px_event::{Ask, Command, Event, Reply, Rests};
+use px_event::{Ask, Command, Event, Reply, Rests, Side};
 use px_exchange::ending::Used;
 use px_exchange::flows::address_of;
+use px_exchange::said::close;
 use px_exchange::terms::{Now, Terms};
 use px_exchange::{Boxed, Outcome, Place};
 use px_message::{Address, Flow, FlowId};
@@ -188,7 +189,7 @@ impl Stream {
         self.client_closed
     }
 
-    /// The number of the parked side, if there is one and its server has not closed.
+    /// The number of the parked side, if there is one that is kept still: neither a byte nor the close of it was heard.
     pub fn parked(&self) -> Option<u32>
         ensures { result ≡ open_parked self.now.at.parked self.now.side }
     {
@@ -204,7 +205,7 @@ impl Stream {
 
     /// How many bytes it keeps, or 2^64 - 1 where that is more: what its readers keep, the content that has come of the body that it
     /// reads, what is held beside that of a message that may yet be streamed, and the text of a request that waits for its server. The flow does not count, nor do bytes that wait behind
-    /// a message, or of a side that is parked.
+    /// a message. Of a side that is parked nothing is kept.
     ///
     /// Where nothing is awaited, a direction that keeps no body keeps fewer than 65,536 + 1,024 bytes, whatever was heard and however long the messages are; so where neither keeps one, all are at most
     /// twice as many.
@@ -224,8 +225,8 @@ impl Stream {
     }
 
     /// Hears what the client sent behind what others read of it, before the stream was made, and whether it has closed, and what the
-    /// side that is parked sent behind what others read of that; and looks once. A stream that was handed something already may not
-    /// begin so.
+    /// side that is parked sent behind what others read of that; and looks once. Where that side sent anything, it is closed, and kept no more; where it sent nothing, it is parked still.
+    /// A stream that was handed something already may not begin so.
     ///
     /// It is then where the chain of flows in sequence is that begins there, over all events, and gave what is owed there.
     pub fn begin(
@@ -243,7 +244,7 @@ impl Stream {
     {
         self.client_closed = closed;
         self.requests.feed(rest)?;
-        link::feed(&mut self.side, waiting)?;
+        self.hear_parked(waiting, out)?;
         self.advance(moment, Wanted::Idle, out)
     }
 
@@ -282,29 +283,53 @@ impl Stream {
         if self.ended() {
             return Ok(());
         }
+        self.hear_told(event, out)?;
         let ready = take_looked(&mut self.phase);
-        match self.hear(event) {
-            Ok(()) => self.advance(moment, ready, out),
-            Err(NoMemory) => {
-                drop(ready);
-                Err(NoMemory)
-            }
-        }
+        self.advance(moment, ready, out)
     }
 
-    // Its readers hear the event.
-    fn hear(&mut self, event: &Event) -> Result<(), NoMemory>
+    // Its readers hear the event, and a parked side of which a byte comes is closed.
+    fn hear_told(&mut self, event: &Event, out: &mut Vec<Command>) -> Result<(), NoMemory>
         requires open_still { self.old.requests.closed ≡ false }
         requires agrees { SideAgrees self.old.side }
-        ensures hears { OnOk result (Hears self.old self.new event.now) }
+        ensures hears { OnOk result (Hears (uses_side self.old.phase) self.old self.new event.now) }
+        ensures gives { OnOk result (out.new.items ≡ out.old.items ++ shut_if (stray_in (uses_side self.old.phase) event.now self.old.side)) }
         ensures phase { self.new.phase ≡ self.old.phase }
     {
+        let stray = self.hear(event)?;
+        close_stray(stray, out)
+    }
+
+    // Its readers hear the event. The number of a parked side of which a byte comes.
+    fn hear(&mut self, event: &Event) -> Result<Option<u32>, NoMemory>
+        requires open_still { self.old.requests.closed ≡ false }
+        requires agrees { SideAgrees self.old.side }
+        ensures hears { OnOk result (Hears (uses_side self.old.phase) self.old self.new event.now) }
+        ensures stray { IfOk result (λ stray. stray ≡ stray_in (uses_side self.old.phase) event.now self.old.side) }
+        ensures phase { self.new.phase ≡ self.old.phase }
+    {
+        let uses = uses_side(&self.phase);
         hear(
             &mut self.requests,
             &mut self.client_closed,
+            uses,
             &mut self.side,
             event,
         )
+    }
+
+    // The parked side, if there is one, has sent this behind what others read of it. Where that is a byte or more, the side is closed.
+    fn hear_parked(&mut self, waiting: &Bytes, out: &mut Vec<Command>) -> Result<(), NoMemory>
+        ensures hears { OnOk result (self.new ≡ record self.old { side = parked_behind waiting.now self.old.at.parked self.old.side }) }
+        ensures gives { OnOk result (out.new.items ≡ out.old.items ++ shut_waiting waiting.now self.old.at.parked self.old.side) }
+    {
+        match &self.at.parked {
+            Some(parked) => {
+                let stray = link::hear_stray(&mut self.side, parked.server, waiting);
+                close_stray(stray, out)
+            }
+            None => Ok(()),
+        }
     }
 
     // Goes on without an answer, and looks.
@@ -315,7 +340,6 @@ impl Stream {
         out: &mut Vec<Command>,
     ) -> Result<(), NoMemory>
         requires goes_up { MayGoUp ready self.old.requests }
-        requires takes { MayTakeSide self.old.at ready self.old.side }
         requires passes { MayPass self.old.at ready self.old.side }
         requires looks { is_passing ready ≡ false → MayLook ready self.old.requests self.old.side }
         ensures { OnOk result (Advances self.old self.new moment ready out.old.items out.new.items) }
@@ -334,7 +358,6 @@ impl Stream {
         out: &mut Vec<Command>,
     ) -> Result<(), NoMemory>
         requires goes_up { MayGoUp ready self.old.requests }
-        requires takes { MayTakeSide self.old.at ready self.old.side }
         requires passes { MayPass self.old.at ready self.old.side }
         requires looks { is_passing ready ≡ false → MayLook ready self.old.requests self.old.side }
         ensures { OnOk result (Advances self.old self.new moment ready out.old.items out.new.items) }
@@ -380,7 +403,14 @@ impl Stream {
             return Ok(ready);
         }
         let now = self.now(moment);
-        let next = pass(now, &mut self.at, &mut self.side, ready, out)?;
+        let next = pass(
+            &self.terms.place,
+            now,
+            &mut self.at,
+            &mut self.side,
+            ready,
+            out,
+        )?;
         self.follow(false, next)
     }
 
@@ -448,7 +478,16 @@ impl Stream {
     {
         let now = self.now(moment);
         let dialled = is_dial(&asked);
-        let ready = turn(&self.terms, now, &mut self.at, asked, reply, out)?;
+        forget(&mut self.at, &self.side);
+        let ready = turn(
+            &self.terms,
+            now,
+            &mut self.at,
+            &mut self.side,
+            asked,
+            reply,
+            out,
+        )?;
         self.follow(dialled, ready)
     }
 
@@ -476,8 +515,8 @@ impl Stream {
         }
     }
 
-    /// Hears an event while the dial of its server is awaited: the client's bytes and its close, and those of a parked side. Behind
-    /// the client's close nothing is heard.
+    /// Hears an event while the dial of its server is awaited: the client's bytes and its close, and those of a parked side, which is kept no more
+    /// then. It gives nothing: that side was closed right behind the dial. Behind the client's close nothing is heard.
     pub fn hear_waiting(&mut self, event: &Event) -> Result<(), NoMemory>
         requires waits { IsDialling self.old.phase }
         requires somewhere { Somewhere self.old }
@@ -490,7 +529,8 @@ impl Stream {
         if self.client_closed {
             return Ok(());
         }
-        self.hear(event)
+        self.hear(event)?;
+        Ok(())
     }
 
     /// The way to the server whose dial is awaited stands: the request goes to it, and this is what it has sent already. Then it
@@ -550,6 +590,25 @@ impl Stream {
     }
 }
 
+// A side of which a byte came is closed, while no flow uses it.
+fn close_stray(stray: Option<u32>, out: &mut Vec<Command>) -> Result<(), NoMemory>
+    ensures { OnOk result (out.new.items ≡ out.old.items ++ shut_if stray) }
+{
+    match stray {
+        Some(server) => close(Side::Server(server), out),
+        None => Ok(()),
+    }
+}
+
+// A parked side that is kept no more is forgotten.
+fn forget(at: &mut At, side: &Option<Link>)
+    ensures { at.new ≡ with_open at.old side.now }
+{
+    if side.is_none() {
+        at.parked = None;
+    }
+}
+
 // The side of its place that is connected, if one is.
 fn parked_of(place: &Place) -> Result<Option<Parked>, NoMemory>
     ensures { IfOk result (λ parked. parked ≡ parked_of place.now) }
@@ -567,7 +626,7 @@ fn parked_of(place: &Place) -> Result<Option<Parked>, NoMemory>
     }
 }
 
-// The number of the parked side, if one is and its server has not closed.
+// The number of the parked side, if one is that is kept still.
 fn open_parked(parked: &Option<Parked>, side: &Option<Link>) -> Option<u32>
     ensures { result ≡ open_parked parked.now side.now }
 {

@@ -2,20 +2,23 @@
 ghost use Rattle.std.specs.Prelude.{◌≡◌, ◌<◌, ◌+◌, ◌++◌, ◌==◌, ◌&&◌, [], None, Some, IfOk, OnOk};
 ghost use Rattle.px_exchange.specs.Dials.{connected_owes};
 ghost use Rattle.px_exchange.specs.Replies.{taken_at_body_of, taken_at_head_of, taken_at_request_body, taken_at_request_head};
-ghost use Rattle.px_chain.specs.Chain.{behind_flow, dial_leads, dial_owes_by, finish as finishes, finish_by, goes_on_by, killed, parked_for, reached, sequence, turn_taken_answer, turn_taken_body, turn_taken_given, turn_taken_head, turn_taken_returned, turn_taken_whole, upgrade as upgrades};
+ghost use Rattle.px_chain.specs.Chain.{behind_flow, dial_leads, dial_owes_by, finish as finishes, finish_by, finish_given as finishes_given, goes_on_by, killed, parked_for, reached, sequence, turn_taken_answer, turn_taken_body, turn_taken_given, turn_taken_head, turn_taken_returned, turn_taken_whole, upgrade as upgrades};
 ghost use Rattle.px_chain.specs.Coming.{allowed_by};
 ghost use Rattle.px_chain.specs.Going.{allowed_up_by, is_sent};
+ghost use Rattle.px_chain.specs.Keeping.{parks};
 ghost use Rattle.px_chain.specs.Sights.{Sight, server_parked};
 ghost use Rattle.px_exchange.specs.Requests.{is_head};
 ghost use Rattle.px_chain.specs.Stages.{all_sent, unparked};
 ghost use Rattle.px_stream.specs.Goings.{sends_to, sent_by, sent_of};
 ghost use Rattle.px_stream.specs.Stands.{content_in, stage_of};
-ghost use Rattle.px_stream.specs.Turns.{FirstHeld, GoesUpFrom, HeldFirst, HeldUpFirst, IsHeldBehind, KeepsUp, Shows, asked_turn, connected_up, connects, dialled_sends, taken_turn, turn_gives};
+ghost use Rattle.px_stream.specs.Turns.{FirstHeld, GoesUpFrom, HeldFirst, HeldUpFirst, IsHeldBehind, KeepsUp, Shows, SideTurned, asked_turn, connected_up, connects, dialled_sends, keeps_on, taken_turn, turn_gives};
+ghost use Rattle.px_stream.specs.Passes.{SideCame};
 
 use crate::at::{At, Parked};
 use crate::coming::{Held, hold};
 use crate::ending::end_with;
 use crate::going::{Going, Sending, hold_request, send_to};
+use crate::link::{self, Link};
 use crate::phase::{Asked, Wanted};
 use px_event::{Command, Reply, Side};
 use px_exchange::asked::is_head as asks_head;
@@ -38,6 +41,7 @@ pub fn turn(
     terms: &Terms,
     now: Now,
     at: &mut At,
+    side: &mut Option<Link>,
     asked: Asked,
     reply: Reply,
     out: &mut Vec<Command>,
@@ -45,9 +49,10 @@ pub fn turn(
     requires few { at.old.flow < 1000000 }
     requires dials { at.old.dials < 4294967295 }
     ensures gives { (seen : Sight) → Shows at.old asked now.parked now.client_closed seen →
-        OnOk result (out.new.items ≡ out.old.items ++ turn_gives at.old asked reply (asked_turn terms.now at.old asked seen now.parked now.client_closed (record { moment = now.moment; value = reply })).owed) }
+        OnOk result (out.new.items ≡ out.old.items ++ turn_gives at.old asked reply (asked_turn terms.now at.old asked seen side.old now.parked now.client_closed (record { moment = now.moment; value = reply })).owed) }
     ensures leads { (seen : Sight) → Shows at.old asked now.parked now.client_closed seen →
-        IfOk result (λ next. stage_of at.new next ≡ sequence (asked_turn terms.now at.old asked seen now.parked now.client_closed (record { moment = now.moment; value = reply })).stage) }
+        IfOk result (λ next. stage_of at.new next ≡ sequence (asked_turn terms.now at.old asked seen side.old now.parked now.client_closed (record { moment = now.moment; value = reply })).stage) }
+    ensures side { IfOk result (λ next. SideTurned asked next side.old side.new) }
     ensures content { IfOk result (λ next. content_in next ≡ []) }
     ensures held { IfOk result (λ next. FirstHeld asked next) }
     ensures up { IfOk result (λ next. KeepsUp asked next) }
@@ -77,7 +82,7 @@ pub fn turn(
             out,
         ),
         Asked::ResponseBody { flow, server, up } => {
-            turn_returned(now, at, flow, server, up, reply, out)
+            turn_returned(&terms.place, now, at, side, flow, server, up, reply, out)
         }
         Asked::GivenHead { flow } => turn_given_head(now, at, flow, reply, out),
         Asked::GivenBody { flow } => turn_given_body(now, at, flow, reply, out),
@@ -531,8 +536,10 @@ fn give_body(
 
 // The hook of the whole response of a server is answered.
 fn turn_returned(
+    place: &Place,
     now: Now,
     at: &mut At,
+    side: &mut Option<Link>,
     flow: Boxed<Flow>,
     server: u32,
     up: Sending,
@@ -540,12 +547,13 @@ fn turn_returned(
     out: &mut Vec<Command>,
 ) -> Result<Wanted, NoMemory>
     requires few { at.old.flow < 1000000 }
-    ensures gives { OnOk result (out.new.items ≡ out.old.items ++ (taken_turn (taken_at_body_of flow.response reply) (λ taken. turn_taken_whole at.old flow server (sent_of up) taken now.moment now.parked now.client_closed)).owed) }
-    ensures leads { IfOk result (λ next. stage_of at.new next ≡ sequence (taken_turn (taken_at_body_of flow.response reply) (λ taken. turn_taken_whole at.old flow server (sent_of up) taken now.moment now.parked now.client_closed)).stage) }
+    ensures gives { OnOk result (out.new.items ≡ out.old.items ++ (taken_turn (taken_at_body_of flow.response reply) (λ taken. turn_taken_whole place.now at.old flow server (sent_of up) (keeps_on flow.request side.old) taken now.moment now.parked now.client_closed)).owed) }
+    ensures leads { IfOk result (λ next. stage_of at.new next ≡ sequence (taken_turn (taken_at_body_of flow.response reply) (λ taken. turn_taken_whole place.now at.old flow server (sent_of up) (keeps_on flow.request side.old) taken now.moment now.parked now.client_closed)).stage) }
+    ensures side { IfOk result (λ next. SideCame next side.old side.new) }
     ensures content { IfOk result (λ next. content_in next ≡ []) }
 {
     match take_at_body_of(now.alloc, &flow, reply)? {
-        Some(taken) => end_exchange(now, at, flow, server, up, taken, out),
+        Some(taken) => end_exchange(place, now, at, side, flow, server, up, taken, out),
         None => {
             drop(up);
             Ok(give_up(flow))
@@ -555,8 +563,10 @@ fn turn_returned(
 
 // The response is sent, unless the flow is killed.
 fn end_exchange(
+    place: &Place,
     now: Now,
     at: &mut At,
+    side: &mut Option<Link>,
     flow: Boxed<Flow>,
     server: u32,
     up: Sending,
@@ -564,12 +574,15 @@ fn end_exchange(
     out: &mut Vec<Command>,
 ) -> Result<Wanted, NoMemory>
     requires few { at.old.flow < 1000000 }
-    ensures gives { OnOk result (out.new.items ≡ out.old.items ++ (turn_taken_whole at.old flow server (sent_of up) taken now.moment now.parked now.client_closed).owed) }
-    ensures leads { IfOk result (λ next. stage_of at.new next ≡ sequence (turn_taken_whole at.old flow server (sent_of up) taken now.moment now.parked now.client_closed).stage) }
+    ensures gives { OnOk result (out.new.items ≡ out.old.items ++ (turn_taken_whole place.now at.old flow server (sent_of up) (keeps_on flow.request side.old) taken now.moment now.parked now.client_closed).owed) }
+    ensures leads { IfOk result (λ next. stage_of at.new next ≡ sequence (turn_taken_whole place.now at.old flow server (sent_of up) (keeps_on flow.request side.old) taken now.moment now.parked now.client_closed).stage) }
+    ensures side { IfOk result (λ next. SideCame next side.old side.new) }
     ensures content { IfOk result (λ next. content_in next ≡ []) }
 {
     match taken {
-        Taken::GoesOn(response) => answer_client(now, at, flow, server, up, response, out),
+        Taken::GoesOn(response) => {
+            answer_client(place, now, at, side, flow, server, up, response, out)
+        }
         _ => {
             drop(up);
             kill(now, flow, out)
@@ -577,10 +590,12 @@ fn end_exchange(
     }
 }
 
-// The response is sent. One of code 101 ends HTTP, where its request was whole; any other finishes the flow, and its server's side.
+// The response is sent. One of code 101 ends HTTP, where its request was whole; any other finishes the flow, and keeps or closes its server's side.
 fn answer_client(
+    place: &Place,
     now: Now,
     at: &mut At,
+    side: &mut Option<Link>,
     flow: Boxed<Flow>,
     server: u32,
     up: Sending,
@@ -588,15 +603,15 @@ fn answer_client(
     out: &mut Vec<Command>,
 ) -> Result<Wanted, NoMemory>
     requires few { at.old.flow < 1000000 }
-    ensures gives { OnOk result (out.new.items ≡ out.old.items ++ (finish_by (is_sent (sent_of up) && response.status == 101) at.old flow (sent_of up) response server now.parked now.client_closed).owed) }
-    ensures leads { IfOk result (λ next. stage_of at.new next ≡ sequence (finish_by (is_sent (sent_of up) && response.status == 101) at.old flow (sent_of up) response server now.parked now.client_closed).stage) }
+    ensures gives { OnOk result (out.new.items ≡ out.old.items ++ (finish_by (is_sent (sent_of up) && response.status == 101) place.now at.old flow (sent_of up) response (keeps_on flow.request side.old) server now.parked now.client_closed).owed) }
+    ensures leads { IfOk result (λ next. stage_of at.new next ≡ sequence (finish_by (is_sent (sent_of up) && response.status == 101) place.now at.old flow (sent_of up) response (keeps_on flow.request side.old) server now.parked now.client_closed).stage) }
+    ensures side { IfOk result (λ next. SideCame next side.old side.new) }
     ensures content { IfOk result (λ next. content_in next ≡ []) }
 {
     match up {
-        Sending::All => answer_whole(now, at, flow, server, response, out),
+        Sending::All => answer_whole(place, now, at, side, flow, server, response, out),
         Sending::GoingUp(sent) => {
             drop(sent);
-            unpark(at);
             end_with(now, flow, response, out)?;
             Ok(Wanted::Over)
         }
@@ -605,23 +620,80 @@ fn answer_client(
 
 // So of a flow whose request was sent.
 fn answer_whole(
+    place: &Place,
     now: Now,
     at: &mut At,
+    side: &mut Option<Link>,
     flow: Boxed<Flow>,
     server: u32,
     response: Shared<Response>,
     out: &mut Vec<Command>,
 ) -> Result<Wanted, NoMemory>
     requires few { at.old.flow < 1000000 }
-    ensures gives { OnOk result (out.new.items ≡ out.old.items ++ (finish_by (response.status == 101) at.old flow all_sent response server now.parked now.client_closed).owed) }
-    ensures leads { IfOk result (λ next. stage_of at.new next ≡ sequence (finish_by (response.status == 101) at.old flow all_sent response server now.parked now.client_closed).stage) }
+    ensures gives { OnOk result (out.new.items ≡ out.old.items ++ (finish_by (response.status == 101) place.now at.old flow all_sent response (keeps_on flow.request side.old) server now.parked now.client_closed).owed) }
+    ensures leads { IfOk result (λ next. stage_of at.new next ≡ sequence (finish_by (response.status == 101) place.now at.old flow all_sent response (keeps_on flow.request side.old) server now.parked now.client_closed).stage) }
+    ensures side { IfOk result (λ next. SideCame next side.old side.new) }
     ensures content { IfOk result (λ next. content_in next ≡ []) }
 {
     if response.get().status.code() == 101 {
         return upgrade(now, at, flow, server, response, out);
     }
-    unpark(at);
-    finish_flow(now, at, flow, response, now.parked, Used::NoServer, out)
+    finish_used(place, now, at, side, flow, server, response, out)
+}
+
+// The flow is finished with a response of this server: its side is kept for the next one, or closed.
+fn finish_used(
+    place: &Place,
+    now: Now,
+    at: &mut At,
+    side: &mut Option<Link>,
+    flow: Boxed<Flow>,
+    server: u32,
+    response: Shared<Response>,
+    out: &mut Vec<Command>,
+) -> Result<Wanted, NoMemory>
+    requires few { at.old.flow < 1000000 }
+    ensures gives { OnOk result (out.new.items ≡ out.old.items ++ (finishes place.now at.old flow all_sent response (keeps_on flow.request side.old) server now.parked now.client_closed).owed) }
+    ensures leads { IfOk result (λ next. stage_of at.new next ≡ sequence (finishes place.now at.old flow all_sent response (keeps_on flow.request side.old) server now.parked now.client_closed).stage) }
+    ensures side { IfOk result (λ next. SideCame next side.old side.new) }
+    ensures content { IfOk result (λ next. content_in next ≡ []) }
+{
+    let index = at.flow;
+    let keeps = link::renew(now.alloc, side, flow.request.get())?;
+    park(place, at, keeps, server, &flow)?;
+    let stays = finish(
+        now,
+        index,
+        flow,
+        response,
+        now.parked,
+        keeps,
+        Used::NoServer,
+        out,
+    )?;
+    Ok(count_flow(at, stays))
+}
+
+// The side of this server is parked behind the flow, where it is kept.
+pub(crate) fn park(
+    place: &Place,
+    at: &mut At,
+    keeps: bool,
+    server: u32,
+    flow: &Flow,
+) -> Result<(), NoMemory>
+    ensures parks { OnOk result (at.new ≡ parks keeps place.now at.old flow.now.request server) }
+    ensures flow { OnOk result (at.new.flow ≡ at.old.flow) }
+{
+    if !keeps {
+        at.parked = None;
+        return Ok(());
+    }
+    at.parked = Some(Parked {
+        server,
+        address: server_for(place, flow)?,
+    });
+    Ok(())
 }
 
 // Sends a response of code 101: what follows on both sides is of another protocol, and the flow is not finished.
@@ -682,29 +754,34 @@ fn end_flow(
     ensures content { IfOk result (λ next. content_in next ≡ []) }
 {
     match taken {
-        Taken::GoesOn(response) => {
-            finish_flow(now, at, flow, response, Used::NoServer, now.parked, out)
-        }
+        Taken::GoesOn(response) => finish_given(now, at, flow, response, out),
         _ => kill(now, flow, out),
     }
 }
 
-// The flow is finished with this response.
-fn finish_flow(
+// The flow is finished with a response that was given in place of the server's.
+fn finish_given(
     now: Now,
     at: &mut At,
     flow: Boxed<Flow>,
     response: Shared<Response>,
-    used: Used,
-    parked: Used,
     out: &mut Vec<Command>,
 ) -> Result<Wanted, NoMemory>
     requires few { at.old.flow < 1000000 }
-    ensures gives { OnOk result (out.new.items ≡ out.old.items ++ (finishes at.old flow all_sent response used parked now.client_closed).owed) }
-    ensures leads { IfOk result (λ next. stage_of at.new next ≡ sequence (finishes at.old flow all_sent response used parked now.client_closed).stage) }
+    ensures gives { OnOk result (out.new.items ≡ out.old.items ++ (finishes_given at.old flow response now.parked now.client_closed).owed) }
+    ensures leads { IfOk result (λ next. stage_of at.new next ≡ sequence (finishes_given at.old flow response now.parked now.client_closed).stage) }
     ensures content { IfOk result (λ next. content_in next ≡ []) }
 {
-    let stays = finish(now, at.flow, flow, response, used, parked, out)?;
+    let stays = finish(
+        now,
+        at.flow,
+        flow,
+        response,
+        Used::NoServer,
+        false,
+        now.parked,
+        out,
+    )?;
     Ok(count_flow(at, stays))
 }
 

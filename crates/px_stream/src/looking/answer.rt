@@ -5,7 +5,7 @@ ghost use Rattle.px_exchange.specs.Flows.{ask_of, with_answer};
 ghost use Rattle.px_exchange.specs.Bodies.{IsReading};
 ghost use Rattle.px_exchange.specs.Finds.{is_relayed};
 ghost use Rattle.px_stream.specs.Looks.{AnswerFound, ReadsMore, ReturnFound, answer_gives, answer_phase, relayed_phase, relays, returned_gives, returned_phase, unless_bad, unless_over};
-ghost use Rattle.px_stream.specs.Responses.{IsKept, ReadsAnswer};
+ghost use Rattle.px_stream.specs.Responses.{IsKept, ReadsHead};
 ghost use Rattle.px_stream.specs.Stands.{IsOpen, StaysOpen};
 
 use super::{fail, leave, read_up};
@@ -13,7 +13,7 @@ use crate::coming::Held;
 use crate::going::Sending;
 use crate::link::Link;
 use crate::phase::{Asked, Phase, Wanted};
-use crate::reading::{FinalHead, read_answer};
+use crate::reading::{FinalHead, read_head};
 use px_event::{Command, Hook};
 use px_exchange::Boxed;
 use px_exchange::body::{Progress, read_body};
@@ -21,7 +21,7 @@ use px_exchange::content::Content;
 use px_exchange::flows::{self, asks_http11, response_of, status_of};
 use px_exchange::said::ask;
 use px_exchange::terms::Now;
-use px_message::{Fault, Flow, Response};
+use px_message::{Fault, Flow, Request, Response};
 use px_read::{MessageReader, ResponseHead};
 use px_text::NoMemory;
 use std::alloc::Global;
@@ -41,7 +41,7 @@ pub fn look_for_answer(
 {
     let sends = asks_http11(&flow);
     let bad = read_up(requests, &up)?;
-    let answer = read_side(now.alloc, side, sends, out)?;
+    let answer = read_side(now.alloc, side, flow.request.get(), sends, out)?;
     look_at_both(now, flow, server, up, bad, answer, out)
 }
 
@@ -49,14 +49,15 @@ pub fn look_for_answer(
 fn read_side(
     alloc: Global,
     side: &mut Option<Link>,
+    request: &Request,
     sends: bool,
     out: &mut Vec<Command>,
 ) -> Result<FinalHead, NoMemory>
     requires kept { IsOpen IsKept side.old }
-    ensures { IfOk result (λ answer. StaysOpen (λ link later. ReadsAnswer answer sends link out.old.items later out.new.items) side.old side.new) }
+    ensures { IfOk result (λ answer. StaysOpen (λ link later. ReadsHead request.now answer sends link out.old.items later out.new.items) side.old side.new) }
 {
     match side {
-        Some(link) => read_answer(alloc, link, sends, out),
+        Some(link) => read_head(alloc, link, request, sends, out),
         None => unreachable!(),
     }
 }

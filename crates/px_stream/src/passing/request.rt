@@ -1,6 +1,5 @@
 //! What comes of a request is sent on, where it is streamed: its body is read as far as it has come, and where that is all of it, all of it was
-//! sent. Where it is known first that it is streamed, its server is to be dialled, or it goes to the side that is parked, if nothing was heard of that. To
-//! one of which something was heard it goes when it is whole: so what came early meets the same, however the client's bytes are cut.
+//! sent. Where it is known first that it is streamed, its server is to be dialled, or it goes to the side that is parked, if that is kept still.
 ghost use Rattle.std.specs.Prelude.{◌≡◌, ◌++◌, false, length, IfOk, OnOk};
 ghost use Rattle.px_exchange.specs.Bodies.{IsReading};
 ghost use Rattle.px_chain.specs.Stages.{At as Stood, unparked};
@@ -10,8 +9,8 @@ ghost use Rattle.px_write.specs.Text.{request_head_text};
 ghost use Rattle.px_chain.specs.Chain.{parked_for};
 ghost use Rattle.px_stream.specs.Comings.{GoesOverHeld};
 ghost use Rattle.px_stream.specs.Goings.{framed_up_by, goes_up_with};
-ghost use Rattle.px_stream.specs.GoingUp.{GoesUp, HeldUpPassed, LedUp, MayGoUp, MayReadUp, RaisedBy, RaisedTo, ReadUp, StartedUp, TakesSide, WentUp, begins_with, is_rising, is_rising_by, unheard_side};
-ghost use Rattle.px_stream.specs.Turns.{opened_side};
+ghost use Rattle.px_stream.specs.GoingUp.{GoesUp, HeldUpPassed, LedUp, MayGoUp, MayReadUp, RaisedBy, RaisedTo, ReadUp, StartedUp, TakesSide, WentUp, is_rising, is_rising_by};
+ghost use Rattle.px_stream.specs.Turns.{opened_side, with_open};
 
 use crate::at::At;
 use crate::coming::{Held, read_held, read_on};
@@ -297,7 +296,7 @@ fn pass_request_body(
 {
     let mut coming = coming;
     let progress = read_coming(requests, &mut coming)?;
-    if begins_going(place, at, side, &coming) {
+    if is_going(&coming) {
         let Undecided {
             flow,
             given,
@@ -334,23 +333,6 @@ fn read_coming(requests: &mut MessageReader, coming: &mut Undecided) -> Result<P
     read_held(requests, &mut coming.body, &mut coming.held.said)
 }
 
-// Whether it is known by now to be streamed, and nothing was heard yet of the side it goes to, where that is the one that is parked.
-fn begins_going(place: &Place, at: &At, side: &Option<Link>, coming: &Undecided) -> bool
-    ensures { result ≡ begins_with place.now at.now coming.now.flow side.now (goes_up_with coming.now.held.read coming.now.most (length coming.now.body)) }
-{
-    is_going(coming) && is_unheard(parked_side(place, at, &coming.flow), side)
-}
-
-// Whether nothing was heard of the side that is parked, where it is taken.
-fn is_unheard(parked: Option<u32>, side: &Option<Link>) -> bool
-    ensures { result ≡ unheard_side parked side.now }
-{
-    match parked {
-        Some(_) => link::is_silent(side),
-        None => true,
-    }
-}
-
 // Whether it is known by now to be streamed.
 fn is_going(coming: &Undecided) -> bool
     ensures { result ≡ goes_up_with coming.now.held.read coming.now.most (length coming.now.body) }
@@ -375,7 +357,7 @@ fn start_up(
 ) -> Result<Wanted, NoMemory>
     ensures { IfOk result (λ next. StartedUp place.now at.old at.new now.moment flow held.read progress held.said.items next side.old side.new out.old.items out.new.items) }
 {
-    let parked = parked_side(place, at, &flow);
+    let parked = parked_side(place, at, side, &flow);
     let told = sending_on(now.alloc, flow)?;
     let HeldRequest { read, said } = held;
     let framed = framed_in(read.get(), &told)?;
@@ -386,11 +368,14 @@ fn start_up(
     )
 }
 
-// The number of the parked side, where the flow's request goes to its address.
-fn parked_side(place: &Place, at: &At, flow: &Flow) -> Option<u32>
-    ensures { result ≡ parked_for place.now flow.now.request at.now.parked }
+// The number of the parked side, where the flow's request goes to its address, and it is kept still.
+fn parked_side(place: &Place, at: &At, side: &Option<Link>, flow: &Flow) -> Option<u32>
+    ensures { result ≡ parked_for place.now flow.now.request (with_open at.now side.now).parked }
 {
-    parked_for(place, flow.request.get(), &at.parked)
+    match side {
+        Some(_) => parked_for(place, flow.request.get(), &at.parked),
+        None => None,
+    }
 }
 
 // The request of a flow as it is sent, that was read so.

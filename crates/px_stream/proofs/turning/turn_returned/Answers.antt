@@ -17,4 +17,4 @@ returns-in-Some-clause-leads c =
 pub returns-in-None : goal.returns-in-None
 returns-in-None c =
     let none : taken_at_body_of c.args.flow.response c.args.reply ≡ None = sym (c.in_ok-taken.ensures ∙ ap (λ (f : Flow). taken_at_body_of f.response c.args.reply) c.deref.ensures) ∙ c.in-None.is in
-    record { gives = rw none (sym (append-nil c.args.out.now.items)); leads = rw (none, c.give_up.ensures) refl; content = rw c.give_up.ensures refl }
+    record { gives = rw none (sym (append-nil c.args.out.now.items)); leads = rw (none, c.give_up.ensures) refl; side = rw c.give_up.ensures tt; content = rw c.give_up.ensures refl }

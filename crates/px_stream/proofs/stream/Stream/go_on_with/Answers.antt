@@ -1,12 +1,9 @@
 use Rattle.std.proofs.lemmas.Result.{on_ok_weaker}
-use Rattle.px_stream.proofs.AnywhereLemmas.{goes_on_asks, goes_on_left, goes_on_looks, goes_on_passes, goes_on_takes, goes_on_up, goes_on_with}
+use Rattle.px_stream.proofs.AnywhereLemmas.{goes_on_asks, goes_on_left, goes_on_looks, goes_on_passes, goes_on_up, goes_on_with}
 use Rattle.px_stream.proofs.stream.Stream.go_on_with.Goals as goal
 
 pub advance-requires-clause-goes_up : goal.advance-requires-clause-goes_up
 advance-requires-clause-goes_up c = goes_on_up c.args.self.now c.args.moment c.args.flow c.behind.result c.behind.ensures c.requires.new c.wanted_for.result (c.wanted_for.ensures c.args.self.now.at)
-
-pub advance-requires-clause-takes : goal.advance-requires-clause-takes
-advance-requires-clause-takes c = goes_on_takes c.args.self.now c.args.moment c.args.flow c.behind.result c.behind.ensures c.requires.new c.wanted_for.result (c.wanted_for.ensures c.args.self.now.at)
 
 pub advance-requires-clause-passes : goal.advance-requires-clause-passes
 advance-requires-clause-passes c = goes_on_passes c.args.self.now c.args.moment c.args.flow c.behind.result c.behind.ensures c.requires.new c.wanted_for.result (c.wanted_for.ensures c.args.self.now.at)

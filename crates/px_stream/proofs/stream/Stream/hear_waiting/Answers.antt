@@ -1,4 +1,3 @@
-use Rattle.std.proofs.lemmas.Result.{on_ok_weaker}
 use Rattle.px_stream.proofs.WaitLemmas.{hears_on, hears_past, waits_agree, waits_open}
 use Rattle.px_stream.proofs.stream.Stream.hear_waiting.Goals as goal
 
@@ -12,4 +11,4 @@ pub hear-requires-clause-agrees : goal.hear-requires-clause-agrees
 hear-requires-clause-agrees c = waits_agree c.args.self.now c.requires.waits c.requires.somewhere
 
 pub returns-clause-hears : goal.returns-clause-hears
-returns-clause-hears c = on_ok_weaker c.hear.result (λ heard. hears_on c.args.self.now c.args.event.now c.hear.new.self c.hear.ensures.phase heard c.if-self.false) c.hear.ensures.hears
+returns-clause-hears c = hears_on c.args.self.now c.args.event.now c.hear.new.self c.requires.waits c.hear.ensures.phase c.in_ok-hear.ensures.hears c.if-self.false

@@ -1,7 +1,7 @@
 use Rattle.std.proofs.Common.{arith}
 use Rattle.std.proofs.lemmas.Result.{on_ok_weaker}
 use Rattle.px_stream.proofs.CallLemmas.{few_asked, turn_taken}
-use Rattle.px_stream.proofs.WaitLemmas.{dial_awaited, reach_asks, reach_goes, reach_left, reach_looks, reach_passes, reach_takes, reach_unshut, reach_up}
+use Rattle.px_stream.proofs.WaitLemmas.{dial_awaited, reach_asks, reach_goes, reach_left, reach_looks, reach_passes, reach_unshut, reach_up}
 use Rattle.px_stream.proofs.stream.Stream.reach.Goals as goal
 
 pub take_asked-asked-requires : goal.take_asked-asked-requires
@@ -23,11 +23,6 @@ feed-requires c = reach_unshut c.args.self.now c.turn.new.self c.args.moment c.t
 
 pub advance-requires-clause-goes_up : goal.advance-requires-clause-goes_up
 advance-requires-clause-goes_up c = reach_up c.args.self.now c.turn.new.self c.args.moment c.take_asked-asked.result c.in_ok-ready.ready c.args.out.now.items c.turn.new.out.items c.requires.waits c.take_asked-asked.ensures
-    (turn_taken c.args.self.now c.turn.new.self _ c.args.moment _ c.take_asked-asked.result c.in_ok-ready.ready c.args.out.now.items c.turn.new.out.items c.in_ok-ready.ensures)
-    c.feed.new.side c.args.rest.now c.in-Ok.ensures c.requires.somewhere
-
-pub advance-requires-clause-takes : goal.advance-requires-clause-takes
-advance-requires-clause-takes c = reach_takes c.args.self.now c.turn.new.self c.args.moment c.take_asked-asked.result c.in_ok-ready.ready c.args.out.now.items c.turn.new.out.items c.requires.waits c.take_asked-asked.ensures
     (turn_taken c.args.self.now c.turn.new.self _ c.args.moment _ c.take_asked-asked.result c.in_ok-ready.ready c.args.out.now.items c.turn.new.out.items c.in_ok-ready.ensures)
     c.feed.new.side c.args.rest.now c.in-Ok.ensures c.requires.somewhere
 

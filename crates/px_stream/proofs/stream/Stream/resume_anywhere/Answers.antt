@@ -21,10 +21,6 @@ pub advance-requires-clause-goes_up : goal.advance-requires-clause-goes_up
 advance-requires-clause-goes_up c = (may_turn c.args.self.now c.args.moment c.args.reply c.take_asked-asked.result c.take_asked-asked.ensures c.requires.somewhere c.turn.new.self c.in_ok-ready.ready c.args.out.now.items c.turn.new.out.items
     (turn_taken c.args.self.now c.turn.new.self _ c.args.moment c.args.reply c.take_asked-asked.result c.in_ok-ready.ready c.args.out.now.items c.turn.new.out.items c.in_ok-ready.ensures)).goes_up
 
-pub advance-requires-clause-takes : goal.advance-requires-clause-takes
-advance-requires-clause-takes c = (may_turn c.args.self.now c.args.moment c.args.reply c.take_asked-asked.result c.take_asked-asked.ensures c.requires.somewhere c.turn.new.self c.in_ok-ready.ready c.args.out.now.items c.turn.new.out.items
-    (turn_taken c.args.self.now c.turn.new.self _ c.args.moment c.args.reply c.take_asked-asked.result c.in_ok-ready.ready c.args.out.now.items c.turn.new.out.items c.in_ok-ready.ensures)).takes
-
 pub advance-requires-clause-passes : goal.advance-requires-clause-passes
 advance-requires-clause-passes c = (may_turn c.args.self.now c.args.moment c.args.reply c.take_asked-asked.result c.take_asked-asked.ensures c.requires.somewhere c.turn.new.self c.in_ok-ready.ready c.args.out.now.items c.turn.new.out.items
     (turn_taken c.args.self.now c.turn.new.self _ c.args.moment c.args.reply c.take_asked-asked.result c.in_ok-ready.ready c.args.out.now.items c.turn.new.out.items c.in_ok-ready.ensures)).passes
