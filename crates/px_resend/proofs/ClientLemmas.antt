@@ -21,7 +21,8 @@ use Rattle.px_exchange.specs.declared.terms.Terms.{Terms}
 use Rattle.px_exchange.specs.Endings.{shut_server}
 use Rattle.px_exchange.specs.Replies.{taken_at_request_head, taken_at_request_body}
 use Rattle.px_chain.specs.Chain.{look as look_of}
-use Rattle.px_chain.specs.Sights.{Sight, server_in, sight_over}
+use Rattle.px_chain.specs.Keeping.{unspoilt_at}
+use Rattle.px_chain.specs.Sights.{Sight, server_in, server_parked, sight_over}
 use Rattle.px_chain.specs.Stages as flows
 use Rattle.px_chain.proofs.Quiet.{IsAskOf, LooksQuiet, any_flow}
 use Rattle.px_chain.proofs.QuietLemmas.{finds_quiet_end}
@@ -75,7 +76,7 @@ flow_others terms stage seen = look_others (look_of terms stage seen) (finds_qui
 found_others : (terms : Terms) (stage : flows.Stage) (seen : Sight) → AreOthers (found (look_by stage seen (look_of terms stage seen)))
 found_others terms stage seen =
     let P : Look Command → Type 0 = λ k. AreOthers (found k) in
-    found_by P stage seen (look_of terms stage seen) (λ at is. tt) (λ at flow server is. (refl, shut_others (server_in server seen))) (flow_others terms stage seen)
+    found_by P stage seen (look_of terms stage seen) (λ at is. shut_others (server_parked (unspoilt_at at seen).parked seen)) (λ at flow server is. (refl, shut_others (server_in server seen))) (flow_others terms stage seen)
 
 head_others : (recorded : Request) (flow : Flow) (prefix : List (Timed Event)) (moment : ℕ) (taken : Taken Request) → AreOthers (turn_head recorded flow prefix moment taken).owed
 head_others recorded flow prefix moment (GoesOn request) = tt

@@ -23,10 +23,12 @@ use Rattle.px_exchange.specs.declared.terms.Terms.{Terms}
 use Rattle.px_exchange.specs.Endings.{shut_server}
 use Rattle.px_exchange.specs.Finds.{look_head, or_leaves}
 use Rattle.px_chain.specs.Chain.{look}
+use Rattle.px_chain.specs.Keeping.{is_silent, unspoilt_at, unspoilt_by}
 use Rattle.px_chain.specs.Sights.{Sight, Standing, request_in, server_in, server_parked, sight_over}
-use Rattle.px_chain.specs.Stages.{At, busy, coming_down, connection, given_body, given_head, idle, next, request_body, response_body, response_head, upgraded}
+use Rattle.px_chain.specs.Stages.{At, Parked, busy, coming_down, connection, given_body, given_head, idle, next, request_body, response_body, response_head, upgraded}
 use Rattle.px_chain.specs.Stages as flows
 use Rattle.px_chain.specs.Streams.{bytes_of}
+use Rattle.px_chain.proofs.KeepingLaws.{silent_nothing}
 use Rattle.px_chain.proofs.Quiet.{IsAskOf, LooksQuiet, any_flow}
 use Rattle.px_chain.proofs.QuietLemmas.{finds_quiet_end}
 use Rattle.px_stream.specs.declared.link.Link.{Link}
@@ -36,10 +38,11 @@ use Rattle.px_stream.specs.declared.phase.Phase.TheVariants as phase
 use Rattle.px_stream.specs.declared.phase.Wanted.{Wanted}
 use Rattle.px_stream.specs.declared.phase.Wanted.TheVariants as ready
 use Rattle.px_stream.specs.declared.stream.Stream.{Stream}
-use Rattle.px_stream.specs.Tells.{closed_in, is_idle, outcome_in, phase_flow, sequence_left, upgraded_side}
+use Rattle.px_stream.specs.Heard.{shut_if}
+use Rattle.px_stream.specs.Tells.{closed_in, is_idle, open_parked, outcome_in, phase_flow, sequence_left, unless_closed, upgraded_side}
 use Rattle.px_stream.specs.Anywhere.{IsInSequence}
 use Rattle.px_stream.specs.Goings.{sent_by, sent_of}
-use Rattle.px_stream.specs.Stands.{IsLast, IsOpen, LinkKeeps, PhaseAt, awaited_in, stage_of}
+use Rattle.px_stream.specs.Stands.{HasSide, IsLast, IsOpen, LinkKeeps, PhaseAt, SentOn, awaited_in, parked_link, silent_link, stage_of}
 use Rattle.px_resend.specs.declared.child.Child.{Child}
 use Rattle.px_resend.specs.declared.child.Child.TheVariants as children
 use Rattle.px_resend.specs.Chain.{flows_of, goes_on, look_by, resend_chain}
@@ -60,7 +63,7 @@ pub idle_waits : (terms : Terms) (at : At) (seen : Sight) → seen.client ≡ []
 idle_waits terms at seen none unclosed =
     let empty : request_item [] ≡ missing = refl in
     let item : request_in seen ≡ missing = ap request_item none ∙ empty in
-    let parked : Used = server_parked at.parked seen in
+    let parked : Used = server_parked (unspoilt_at at seen).parked seen in
     ap (λ i. or_leaves seen.closed (shut_server parked) (look_head terms at.flow i seen.now parked seen.closed)) item ∙ waits_by seen.closed (shut_server parked) unclosed
 
 -- the end is found at once
@@ -78,6 +81,20 @@ never_asks closed ask is = let no : Asks ask ≡ Ends [] = ends_at_once closed (
 used_open : (server : ℕ) (bytes : List ℕ) (shut : Bool) (side : Option Link) → IsOpen (LinkKeeps server bytes shut) side → ByServer server (closed_in side) ≡ ByServer server shut
 used_open server bytes shut None keeps = absurd keeps
 used_open server bytes shut (Some link) keeps = ap (ByServer server) keeps.closed
+
+-- the side that is kept, unless something was heard of it: it is the one that is closed
+parked_by : (silent : Bool) (parked : Parked) (seen : Sight) → is_silent seen.server seen.shut ≡ silent →
+    shut_if (unless_closed parked (silent_link silent parked.server)) ≡ shut_server (server_parked (unspoilt_by silent (Some parked)) seen)
+parked_by true parked seen is = ap (λ shut. shut_server (ByServer parked.server shut)) (sym (silent_nothing seen.server seen.shut is).is_open)
+parked_by false parked seen is = refl
+
+none_by : (silent : Bool) (seen : Sight) → [] ≡ shut_server (server_parked (unspoilt_by silent None) seen)
+none_by true seen = refl
+none_by false seen = refl
+
+closes_parked : (parked : Option Parked) (seen : Sight) → shut_if (open_parked parked (parked_link parked seen)) ≡ shut_server (server_parked (unspoilt_by (is_silent seen.server seen.shut) parked) seen)
+closes_parked None seen = none_by (is_silent seen.server seen.shut) seen
+closes_parked (Some parked) seen = parked_by (is_silent seen.server seen.shut) parked seen refl
 
 -- what is asked is said to no client
 asked_of_none : (ask : Command) → IsAskOf any_flow ask → to_servers (ask ∷ []) ≡ ask ∷ []
@@ -136,9 +153,13 @@ module _ (terms : Terms) (recorded : Request) (boxed : Box Stream) (next_child :
               ∙ (append-nil (seen_of view (to_servers owed)) ∙ ap (λ l. seen_of view (found l)) (sym is));
         }
 
-    -- where the next flow would begin nothing is found, and this one is finished
-    idle_on : (here : At) → (next_child ≡ children.Over) × (more ≡ []) → FollowsBy (idle here) seen NotYet
-    idle_on here (same, none) = record { keeps = same; gives = λ view. ap (seen_of view) none }
+    -- where the next flow would begin this one is finished, and the side that is kept is closed
+    idle_on : boxed.value.side ≡ parked_link boxed.value.at.parked seen → (next_child ≡ children.Over) × (more ≡ shut_if (open_parked boxed.value.at.parked boxed.value.side)) →
+        FollowsBy (idle boxed.value.at) seen NotYet
+    idle_on side (same, gave) = record {
+      keeps = same;
+      gives = λ view. ap (seen_of view) (gave ∙ (ap (λ s. shut_if (open_parked boxed.value.at.parked s)) side ∙ closes_parked boxed.value.at.parked seen));
+    }
 
     -- a response of code 101 finishes it
     upgrades_on : (here : At) (flow : Flow) (server : ℕ) (owed : List Command) → owed ≡ [] →
@@ -151,18 +172,22 @@ module _ (terms : Terms) (recorded : Request) (boxed : Box Stream) (next_child :
     module _ (leads : Leads boxed.value.phase) where
       -- ---- it looks for something
 
-      not_yet : (here : At) (looked : Wanted) → boxed.value.phase ≡ phase.Ready looked → look terms (stage_of here looked) seen ≡ NotYet → FollowsBy (stage_of here looked) seen NotYet
-      not_yet here ready.Idle same is = idle_on here (subst Leads same leads)
-      not_yet here (ready.RequestBody flow given most body kept) same is = waits_on (busy here flow (request_body given most)) refl (subst Leads same leads)
-      not_yet here (ready.Connection flow up) same is = waits_on (busy here flow (connection (sent_by up))) refl (subst Leads same leads)
-      not_yet here (ready.ResponseHead flow server up) same is = waits_on (busy here flow (response_head server (sent_of up))) refl (subst Leads same leads)
-      not_yet here (ready.ResponseBody flow server up most body held) same is = waits_on (busy here flow (response_body server (sent_of up) most)) refl (subst Leads same leads)
-      not_yet here (ready.ComingDown flow server up sent) same is = waits_on (busy here flow (coming_down server (sent_of up))) refl (subst Leads same leads)
-      not_yet here (ready.Upgraded flow server) same is = absurd (never_waits seen.closed is)
-      not_yet here (ready.GivenHead flow) same is = waits_on (busy here flow given_head) refl (subst Leads same leads)
-      not_yet here (ready.GivenBody flow) same is = waits_on (busy here flow given_body) refl (subst Leads same leads)
-      not_yet here (ready.Connects address) same is = absurd (never_waits seen.closed is)
-      not_yet here ready.Over same is = absurd (never_waits seen.closed is)
+      abbrev here : At
+      here = boxed.value.at
+
+      not_yet : (looked : Wanted) (told : SentOn) → boxed.value.phase ≡ phase.Ready looked → look terms (stage_of here looked) seen ≡ NotYet →
+          HasSide (stage_of here looked) seen told looked boxed.value.side → FollowsBy (stage_of here looked) seen NotYet
+      not_yet ready.Idle told same is side = idle_on side (subst Leads same leads)
+      not_yet (ready.RequestBody flow given most body kept) told same is side = waits_on (busy here flow (request_body given most)) refl (subst Leads same leads)
+      not_yet (ready.Connection flow up) told same is side = waits_on (busy here flow (connection (sent_by up))) refl (subst Leads same leads)
+      not_yet (ready.ResponseHead flow server up) told same is side = waits_on (busy here flow (response_head server (sent_of up))) refl (subst Leads same leads)
+      not_yet (ready.ResponseBody flow server up most body held) told same is side = waits_on (busy here flow (response_body server (sent_of up) most)) refl (subst Leads same leads)
+      not_yet (ready.ComingDown flow server up sent) told same is side = waits_on (busy here flow (coming_down server (sent_of up))) refl (subst Leads same leads)
+      not_yet (ready.Upgraded flow server) told same is side = absurd (never_waits seen.closed is)
+      not_yet (ready.GivenHead flow) told same is side = waits_on (busy here flow given_head) refl (subst Leads same leads)
+      not_yet (ready.GivenBody flow) told same is side = waits_on (busy here flow given_body) refl (subst Leads same leads)
+      not_yet (ready.Connects address) told same is side = absurd (never_waits seen.closed is)
+      not_yet ready.Over told same is side = absurd (never_waits seen.closed is)
 
       -- ---- it asks
 
@@ -213,8 +238,8 @@ module _ (terms : Terms) (recorded : Request) (boxed : Box Stream) (next_child :
       follows_by : (stage : flows.Stage) (l : Look Command) → seen.client ≡ [] → seen.closed ≡ false → look terms stage seen ≡ l →
           PhaseAt l terms boxed.value.at boxed.value.requests boxed.value.side boxed.value.phase stage seen → FollowsBy stage seen l
       follows_by stage NotYet none unclosed is (looked, sent, same, wants, gave, rests) =
-          let P : flows.Stage → Type 0 = λ s. look terms s seen ≡ NotYet → FollowsBy s seen NotYet in
-          subst P wants.is_stage (not_yet boxed.value.at looked same) is
+          let P : flows.Stage → Type 0 = λ s. look terms s seen ≡ NotYet → HasSide s seen sent looked boxed.value.side → FollowsBy s seen NotYet in
+          subst P wants.is_stage (not_yet looked sent same) is wants.has_side
       follows_by stage (Asks ask) none unclosed is (awaits, same, asked) = asks_it stage ask awaits none unclosed same is
       follows_by stage (Ends owed) none unclosed is (last, same, over) = ends_it stage owed last none unclosed same is over
 
@@ -243,7 +268,11 @@ finishes_so out between longer flow known used side same_flow same_side first se
     ∙ (append_assoc out (done_by flow) (shut_by used)
     ∙ (ap (λ f. out ++ (done_by f ++ shut_by used)) same_flow ∙ ap (λ u. out ++ (done_by known ++ shut_by u)) same_side)))
 
--- a flow that is finished asks nothing
+-- a flow that is finished asks nothing, nor does the close of a side that was kept
+closes_asks : (parked : Option ℕ) → flat_map asks_in (shut_if parked) ≡ []
+closes_asks None = refl
+closes_asks (Some server) = refl
+
 shut_asks : (used : Used) → flat_map asks_in (shut_server used) ≡ []
 shut_asks NoServer = refl
 shut_asks (ByServer number true) = refl
@@ -274,7 +303,7 @@ module _ (boxed : Box Stream) (next_child : Child) (more : List Command) where
   asks_by : (is_here : Phase) → boxed.value.phase ≡ is_here → FollowsAs (is_idle is_here) (outcome_in is_here) boxed next_child more →
       option_to_list (awaited_in is_here) ++ flat_map asks_in more ≡ option_to_list (awaited_by next_child)
   asks_by (phase.Asked awaits) its leads = goes_asks (phase.Asked awaits) its leads
-  asks_by (phase.Ready ready.Idle) its leads = over_asks leads.0 (none_asked leads.1)
+  asks_by (phase.Ready ready.Idle) its leads = over_asks leads.0 (ap (flat_map asks_in) leads.1 ∙ closes_asks (open_parked boxed.value.at.parked boxed.value.side))
   asks_by (phase.Ready (ready.RequestBody flow given most body kept)) its leads = goes_asks (phase.Ready (ready.RequestBody flow given most body kept)) its leads
   asks_by (phase.Ready (ready.Connection flow up)) its leads = goes_asks (phase.Ready (ready.Connection flow up)) its leads
   asks_by (phase.Ready (ready.ResponseHead flow server up)) its leads = goes_asks (phase.Ready (ready.ResponseHead flow server up)) its leads

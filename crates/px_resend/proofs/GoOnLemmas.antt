@@ -41,12 +41,11 @@ use Rattle.px_resend.specs.declared.child.Child.TheVariants as children
 use Rattle.px_resend.specs.Chain.{first_at, flows_of, going, going_at, goes_on, resend_chain, terms_by}
 use Rattle.px_resend.specs.Heard.{all_of_servers, to_servers}
 use Rattle.px_resend.specs.Kept.{awaited_by}
-use Rattle.px_resend.specs.Stands.{IsUnparked}
 use Rattle.px_resend.specs.Steps.{Adds, Arrives, Follows, FollowsAs, GoesOnAs}
 use Rattle.px_resend.proofs.FollowLemmas.{follows_at}
 use Rattle.px_resend.proofs.GoingLemmas.{owed_passed}
 use Rattle.px_resend.proofs.HeardLemmas.{never_closed, no_bytes, servers_alike, servers_asked}
-use Rattle.px_resend.proofs.BehindDial.{first_unparked, passed_unparked}
+use Rattle.px_resend.proofs.ApartLemmas.{StandsApart, busy_apart, first_unparked, passed_on, still_unparked}
 
 -- ---- a stream of this place
 
@@ -121,8 +120,8 @@ module _ (conv : ℕ) (proxy : Option Address) (recorded : Request) (flow : Flow
       let asks = asks_by flow.response terms flow (sight_over place heard) (sight_over on heard) in
       let asked = asked_phase (look terms on.stage (sight_over on heard)) terms boxed.value.at boxed.value.requests boxed.value.side boxed.value.phase on.stage (sight_over on heard) asks.0 asks.1
       there.is_there.is_at.is_in.phase in
-      let still : IsUnparked on.stage = passed_unparked terms place.stage (sight_over place heard) (first_unparked flow.response flow) in
-      let follows = follows_at terms recorded boxed (children.GoesOn boxed) [] on prefix there.is_there still (follows_asked boxed asked.0 asked.1) in
+      let still : StandsApart on heard = passed_on terms place heard (busy_apart place heard tt (first_unparked flow.response flow)) in
+      let follows = follows_at terms recorded boxed (children.GoesOn boxed) [] on prefix there.is_there (still_unparked on heard still) (follows_asked boxed asked.0 asked.1) in
       record {
         there = follows.there;
         gives = λ view.

@@ -19,7 +19,7 @@ use Rattle.px_event.proofs.Steps.{Takes, onward, past_end, Resumes}
 use Rattle.px_read.specs.declared.head.ResponseHead.{ResponseHead as ReadResponse}
 use Rattle.px_exchange.specs.declared.terms.Terms.{Terms}
 use Rattle.px_exchange.specs.Texts.{interim_command, interim_commands}
-use Rattle.px_chain.specs.Chain.{http_chain, sequence, so_far}
+use Rattle.px_chain.specs.Chain.{http_chain, sequence, so_far, waits_at}
 use Rattle.px_chain.specs.Sights.{Sight, Standing, answers_in, sight_over}
 use Rattle.px_chain.specs.Stages.{all_sent, busy, coming_down, connection, given_body, given_head, going_up, idle, next, request_body, response_body, response_head, upgraded}
 use Rattle.px_chain.specs.Stages as flows
@@ -38,8 +38,8 @@ use Rattle.px_resend.specs.Stands.{IsChild, IsSomewhere, IsUnparked, Keeps, Keep
 use Rattle.px_resend.specs.Steps.{Adds, Follows, ResumesChild, TakesChild}
 use Rattle.px_resend.proofs.FollowLemmas.{follows_asks, follows_at, follows_left}
 use Rattle.px_resend.proofs.HeardLemmas.{all_longer, servers_alike, servers_append, servers_asked}
-use Rattle.px_resend.proofs.OwedLemmas.{asked_there}
-use Rattle.px_resend.proofs.BehindDial.{none_behind, passed_unparked, turned_unparked}
+use Rattle.px_resend.proofs.OwedLemmas.{IsBusy, asked_there, waits_busy}
+use Rattle.px_resend.proofs.ApartLemmas.{IsApart, StandsApart, busy_apart, none_behind, none_strays, passed_on, still_unparked, turned_on, unparked_apart}
 
 -- ---- where a flow is kept
 
@@ -113,39 +113,44 @@ interim_by versions.Http10 request heads is = rw is refl
 interim_by versions.Http11 request heads is = rw is (interim_none heads)
 
 -- nothing of its request is owed while it waits: that was whole
-waits_none : (terms : Terms) (stage : flows.Stage) (seen : Sight) → sent_at stage ≡ all_sent → to_servers (so_far terms stage seen) ≡ []
-waits_none terms (idle at) seen whole = refl
-waits_none terms (busy at flow (request_body given most)) seen whole = refl
-waits_none terms (busy at flow (connection how)) seen whole = refl
-waits_none terms (busy at flow (response_head side all_sent)) seen whole = interim_by flow.request.version flow.request (answers_in flow.request seen).interim refl
-waits_none terms (busy at flow (response_head side going_up)) seen whole = absurd (let no : going_up ≡ all_sent = whole in cc)
-waits_none terms (busy at flow (response_body side all_sent most)) seen whole = refl
-waits_none terms (busy at flow (response_body side going_up most)) seen whole = absurd (let no : going_up ≡ all_sent = whole in cc)
-waits_none terms (busy at flow (coming_down side all_sent)) seen whole = refl
-waits_none terms (busy at flow (coming_down side going_up)) seen whole = absurd (let no : going_up ≡ all_sent = whole in cc)
-waits_none terms (busy at flow (upgraded side)) seen whole = refl
-waits_none terms (busy at flow given_head) seen whole = refl
-waits_none terms (busy at flow given_body) seen whole = refl
-waits_none terms (next at) seen whole = refl
-waits_none terms flows.over seen whole = refl
+waits_at_none : (terms : Terms) (stage : flows.Stage) (seen : Sight) → sent_at stage ≡ all_sent → to_servers (waits_at terms stage seen) ≡ []
+waits_at_none terms (idle at) seen whole = refl
+waits_at_none terms (busy at flow (request_body given most)) seen whole = refl
+waits_at_none terms (busy at flow (connection how)) seen whole = refl
+waits_at_none terms (busy at flow (response_head side all_sent)) seen whole = interim_by flow.request.version flow.request (answers_in flow.request seen).interim refl
+waits_at_none terms (busy at flow (response_head side going_up)) seen whole = absurd (let no : going_up ≡ all_sent = whole in cc)
+waits_at_none terms (busy at flow (response_body side all_sent most)) seen whole = refl
+waits_at_none terms (busy at flow (response_body side going_up most)) seen whole = absurd (let no : going_up ≡ all_sent = whole in cc)
+waits_at_none terms (busy at flow (coming_down side all_sent)) seen whole = refl
+waits_at_none terms (busy at flow (coming_down side going_up)) seen whole = absurd (let no : going_up ≡ all_sent = whole in cc)
+waits_at_none terms (busy at flow (upgraded side)) seen whole = refl
+waits_at_none terms (busy at flow given_head) seen whole = refl
+waits_at_none terms (busy at flow given_body) seen whole = refl
+waits_at_none terms (next at) seen whole = refl
+waits_at_none terms flows.over seen whole = refl
+
+-- nor of a parked side
+waits_none : (terms : Terms) (stage : flows.Stage) (seen : Sight) → sent_at stage ≡ all_sent → IsApart stage seen.server → to_servers (so_far terms stage seen) ≡ []
+waits_none terms stage seen whole apart = ap (λ l. to_servers (l ++ waits_at terms stage seen)) (none_strays stage seen apart) ∙ waits_at_none terms stage seen whole
 
 -- what a place owes to servers is what is found there, where no side is parked
-pub owed_there : (terms : Terms) (recorded : Request) (place : Standing) (prefix : List (Timed Event)) → IsUnparked place.stage →
+pub owed_there : (terms : Terms) (recorded : Request) (place : Standing) (prefix : List (Timed Event)) → StandsApart place prefix →
     to_servers (owed_here (flows_of terms recorded) place prefix) ≡ to_servers (found ((flows_of terms recorded).look place prefix))
-owed_there terms recorded place prefix unparked =
+owed_there terms recorded place prefix apart =
+    let unparked = still_unparked place prefix apart in
     let waits : List Command = so_far terms place.stage (sight_over place prefix) in
     let here : Look Command = (flows_of terms recorded).look place prefix in
     ap (λ behind. to_servers (waits ++ found_with behind here)) (none_behind place.stage (sight_over place prefix) unparked)
     ∙ (servers_append waits (found here)
-    ∙ ap (λ l. l ++ to_servers (found here)) (waits_none terms place.stage (sight_over place prefix) unparked.whole))
+    ∙ ap (λ l. l ++ to_servers (found here)) (waits_none terms place.stage (sight_over place prefix) unparked.whole apart.apart))
 
 -- and so where it passes, behind what passing owes
-pub owed_passed : (terms : Terms) (recorded : Request) (place : Standing) (prefix : List (Timed Event)) → IsUnparked ((flows_of terms recorded).pass place prefix).stage.stage →
+pub owed_passed : (terms : Terms) (recorded : Request) (place : Standing) (prefix : List (Timed Event)) → StandsApart ((flows_of terms recorded).pass place prefix).stage prefix →
     to_servers (owed_over (flows_of terms recorded) place prefix)
     ≡ to_servers ((flows_of terms recorded).pass place prefix).owed ++ to_servers (found ((flows_of terms recorded).look ((flows_of terms recorded).pass place prefix).stage prefix))
-owed_passed terms recorded place prefix unparked =
+owed_passed terms recorded place prefix apart =
     let passed = (flows_of terms recorded).pass place prefix in
-    servers_append passed.owed (owed_here (flows_of terms recorded) passed.stage prefix) ∙ ap (λ l. to_servers passed.owed ++ l) (owed_there terms recorded passed.stage prefix unparked)
+    servers_append passed.owed (owed_here (flows_of terms recorded) passed.stage prefix) ∙ ap (λ l. to_servers passed.owed ++ l) (owed_there terms recorded passed.stage prefix apart)
 
 module _ (terms : Terms) (recorded : Request) (boxed : Box Stream) (after : Box Stream) (child : Child) (given second : List Command) (follows : Follows after child second) where
   -- ---- an event
@@ -185,11 +190,12 @@ module _ (terms : Terms) (recorded : Request) (boxed : Box Stream) (after : Box 
       let P : List (Timed Event) → Type 0 = λ p. IsInSequence terms 0 after.value (chain.pass place p).stage p in
       let on : Standing = (chain.pass place more).stage in
       let there : IsInSequence terms 0 after.value on more = subst P same at in
-      let still : IsUnparked on.stage = passed_unparked terms place.stage (sight_over place more) unparked in
-      let next_there = follows_at terms recorded after child second on (prefix ++ e ∷ []) there still follows in
+      let goes : IsBusy place.stage = waits_busy terms place.stage (sight_over place (all_of_servers prefix)) (found_same terms recorded boxed place prefix is_child ∙ is) in
+      let still : StandsApart on more = passed_on terms place more (busy_apart place more goes unparked) in
+      let next_there = follows_at terms recorded after child second on (prefix ++ e ∷ []) there (still_unparked on more still) follows in
       onward (found_same terms recorded boxed place prefix is_child ∙ is) next_there.there
       (λ view. gave_both view (chain.so_far place (all_of_servers prefix)) (owed_over chain place more) (to_servers (chain.pass place more).owed) (found (chain.look on more))
-      (found ((resend_chain terms recorded).look (goes_on on) (prefix ++ e ∷ []))) (waits_none terms place.stage (sight_over place (all_of_servers prefix)) unparked.whole)
+      (found ((resend_chain terms recorded).look (goes_on on) (prefix ++ e ∷ []))) (waits_none terms place.stage (sight_over place (all_of_servers prefix)) unparked.whole (unparked_apart place.stage _ goes unparked))
       (owed_passed terms recorded place more still) (gives view ∙ ap (λ p. seen_of view (owed_over chain place p)) same) (next_there.gives view))
 
   takes_there : (moment : ℕ) (event : Event) (place : Standing) (prefix : List (Timed Event)) → IsChild terms recorded (children.GoesOn boxed) (goes_on place) prefix → IsUnparked place.stage →
@@ -226,9 +232,9 @@ module _ (terms : Terms) (recorded : Request) (boxed : Box Stream) (after : Box 
       let on : Standing = (chain.pass turned.stage heard).stage in
       let seen : Sight = sight_over place heard in
       let asked : (resend_chain terms recorded).look (goes_on place) prefix ≡ Asks resumes.ask = found_same terms recorded boxed place prefix is_child ∙ resumes.asked in
-      let led : IsUnparked turned.stage.stage = turned_unparked terms place.stage seen answer unparked (asked_there terms place.stage seen resumes.ask asked).0 in
-      let still : IsUnparked on.stage = passed_unparked terms turned.stage.stage (sight_over turned.stage heard) led in
-      let next_there = follows_at terms recorded after child second on prefix resumes.place still follows in
+      let goes : IsBusy place.stage = (asked_there terms place.stage seen resumes.ask asked).0 in
+      let still : StandsApart on heard = passed_on terms turned.stage heard (turned_on terms place heard answer goes (busy_apart place heard goes unparked)) in
+      let next_there = follows_at terms recorded after child second on prefix resumes.place (still_unparked on heard still) follows in
       let passed : List Command = to_servers (chain.pass turned.stage heard).owed in
       let first : List Command = to_servers turned.owed in
       let here : List Command = found (chain.look on heard) in

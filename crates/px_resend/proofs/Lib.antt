@@ -1,6 +1,7 @@
 pub mod JoinedLemmas
 pub mod ReplaysLemmas
 pub mod OwedLemmas
+pub mod ApartLemmas
 pub mod BehindDial
 pub mod OrderLemmas
 pub mod SilentLemmas

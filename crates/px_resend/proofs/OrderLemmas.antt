@@ -19,15 +19,16 @@ use Rattle.px_exchange.specs.declared.terms.Terms.{Terms}
 use Rattle.px_exchange.specs.Flows.{ask_of}
 use Rattle.px_exchange.specs.Replies.{taken_at_request_head, taken_at_request_body}
 use Rattle.px_chain.specs.Chain.{look as look_of, pass as pass_of, sequence, turn as turn_of}
-use Rattle.px_chain.specs.Sights.{Sight, sight_over}
+use Rattle.px_chain.specs.Keeping.{unspoilt_at}
+use Rattle.px_chain.specs.Sights.{Sight, server_parked, sight_over}
 use Rattle.px_chain.specs.Stages.{busy, idle, next}
 use Rattle.px_chain.specs.Stages as flows
 use Rattle.px_chain.proofs.Quiet.{AllQuiet, EndsNone, IsAskOf, LooksQuiet, any_flow, no_flow}
 use Rattle.px_chain.proofs.QuietLemmas.{IsGoing, pass_led, pass_quiet, turn_led}
-use Rattle.px_resend.specs.Chain.{Stage, asks_head, asks_whole, goes_on, look_by, over, pass, resend_chain, terms_by, turn_head, turn_whole, waiting}
+use Rattle.px_resend.specs.Chain.{Stage, asks_head, asks_whole, goes_on, look_by, over, pass, resend_chain, shut_parked, terms_by, turn_head, turn_whole, waiting}
 use Rattle.px_resend.specs.Due.{resend_due}
 use Rattle.px_resend.specs.Heard.{all_of_servers, to_servers}
-use Rattle.px_resend.proofs.OwedLemmas.{IsBusy, asked_there, busy_goes, found_quiet, is_any, quiet_left}
+use Rattle.px_resend.proofs.OwedLemmas.{IsBusy, asked_there, busy_goes, found_quiet, is_any, quiet_left, shut_quiet}
 
 -- ---- the test
 
@@ -169,9 +170,9 @@ finished_passed terms (busy at flow doing) seen is = not_past is
 finished_passed terms (next at) seen is = refl
 finished_passed terms flows.over seen is = refl
 
--- behind its flow nothing is found
+-- behind its flow nothing is asked
 finished_none : (terms : Terms) (index : ℕ) (stage : flows.Stage) (seen : Sight) → is_finished stage ≡ true → AsksNoneOf index (found (look_by stage seen (look_of terms stage seen)))
-finished_none terms index (idle at) seen is = tt
+finished_none terms index (idle at) seen is = none_asked index (shut_parked at seen) (shut_quiet (server_parked (unspoilt_at at seen).parked seen))
 finished_none terms index (busy at flow doing) seen is = not_past is
 finished_none terms index (next at) seen is = tt
 finished_none terms index flows.over seen is = tt

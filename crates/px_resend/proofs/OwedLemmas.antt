@@ -12,7 +12,8 @@ use Rattle.px_exchange.specs.declared.ending.Used.TheVariants.{NoServer, ByServe
 use Rattle.px_exchange.specs.declared.terms.Terms.{Terms}
 use Rattle.px_exchange.specs.Endings.{shut_server}
 use Rattle.px_chain.specs.Chain.{look as look_of}
-use Rattle.px_chain.specs.Sights.{Sight, server_in}
+use Rattle.px_chain.specs.Keeping.{unspoilt_at}
+use Rattle.px_chain.specs.Sights.{Sight, server_in, server_parked}
 use Rattle.px_chain.specs.Stages.{busy, idle, next}
 use Rattle.px_chain.specs.Stages as flows
 use Rattle.px_chain.proofs.Quiet.{AllQuiet, IsOf, LooksQuiet, any_flow}
@@ -52,7 +53,7 @@ server_line server (commands.Done flow ∷ owed) = ap (λ l. command_atoms (line
 
 -- ---- what is found
 
-shut_quiet : (used : Used) → AllQuiet any_flow (shut_server used)
+pub shut_quiet : (used : Used) → AllQuiet any_flow (shut_server used)
 shut_quiet NoServer = tt
 shut_quiet (ByServer number true) = tt
 shut_quiet (ByServer number false) = (tt, tt)
@@ -65,7 +66,7 @@ flow_left terms stage seen = look_left (look_of terms stage seen) (finds_quiet_e
 pub found_quiet : (terms : Terms) (stage : flows.Stage) (seen : Sight) → LooksQuiet any_flow (look_by stage seen (look_of terms stage seen))
 found_quiet terms stage seen =
     let P : Look Command → Type 0 = LooksQuiet any_flow in
-    found_by P stage seen (look_of terms stage seen) (λ at is. tt) (λ at flow server is. (tt, shut_quiet (server_in server seen))) (flow_left terms stage seen)
+    found_by P stage seen (look_of terms stage seen) (λ at is. shut_quiet (server_parked (unspoilt_at at seen).parked seen)) (λ at flow server is. (tt, shut_quiet (server_in server seen))) (flow_left terms stage seen)
 
 -- A flow has begun, and is not finished.
 abbrev pub IsBusy : flows.Stage → Type 0
@@ -87,10 +88,20 @@ ended_asks : (owed : List Command) (ask : Command) → Ends owed ≡ Asks ask �
 ended_asks owed ask is = cc
 
 asks_busy : (terms : Terms) (stage : flows.Stage) (seen : Sight) (ask : Command) → look_by stage seen (look_of terms stage seen) ≡ Asks ask → IsBusy stage
-asks_busy terms (idle at) seen ask is = absurd (ended_asks [] ask is)
+asks_busy terms (idle at) seen ask is = absurd (ended_asks _ ask is)
 asks_busy terms (busy at flow doing) seen ask is = tt
 asks_busy terms (next at) seen ask is = absurd (ended_asks [] ask is)
 asks_busy terms flows.over seen ask is = absurd (ended_asks [] ask is)
+
+-- and so is it where nothing is found yet
+ended_waits : (owed : List Command) → Ends owed ≡ NotYet → ⊥
+ended_waits owed is = cc
+
+pub waits_busy : (terms : Terms) (stage : flows.Stage) (seen : Sight) → look_by stage seen (look_of terms stage seen) ≡ NotYet → IsBusy stage
+waits_busy terms (idle at) seen is = absurd (ended_waits _ is)
+waits_busy terms (busy at flow doing) seen is = tt
+waits_busy terms (next at) seen is = absurd (ended_waits _ is)
+waits_busy terms flows.over seen is = absurd (ended_waits _ is)
 
 -- what asks is a flow that the chain of flows asks about
 pub asked_there : (terms : Terms) (stage : flows.Stage) (seen : Sight) (ask : Command) → look_by stage seen (look_of terms stage seen) ≡ Asks ask → IsBusy stage × (look_of terms stage seen ≡ Asks ask)

@@ -21,12 +21,14 @@ use Rattle.px_exchange.specs.declared.terms.Terms.{Terms}
 use Rattle.px_exchange.specs.Endings.{shut_server}
 use Rattle.px_exchange.specs.Replies.{taken_at_request_head, taken_at_request_body}
 use Rattle.px_chain.specs.Chain.{is_sequence, sequence}
-use Rattle.px_chain.specs.Sights.{Sight, server_in, sight_over}
+use Rattle.px_chain.specs.Keeping.{unspoilt_at}
+use Rattle.px_chain.specs.Sights.{Sight, server_in, server_parked, sight_over}
 use Rattle.px_chain.specs.Silent.{NoAnswer, connects}
 use Rattle.px_chain.specs.Stages.{side_in}
 use Rattle.px_chain.specs.Stages as flows
 use Rattle.px_chain.proofs.CountedLemmas.{Counts, CountsServers, IsSilent, counted_silent}
-use Rattle.px_chain.proofs.SilentLemmas.{AreBelow, SideBelow, dialled_at, http_counts, turns_counted}
+use Rattle.px_chain.proofs.BelowLemmas.{dialled_at, http_counts, turns_counted}
+use Rattle.px_chain.proofs.SilentLemmas.{AreBelow, SideBelow}
 use Rattle.px_stream.specs.Anywhere.{doing_by}
 use Rattle.px_resend.specs.Chain.{Stage, asks_head, asks_whole, first_at, flows_of, goes_on, look_by, over, pass, resend_chain, terms_by, to_servers_in, turn_head, turn_whole, waiting}
 use Rattle.px_resend.specs.Due.{resend_due}
@@ -64,7 +66,7 @@ module _ (server : ℕ) where
   look_silent : (stage : flows.Stage) (seen : Sight) (l : Look Command) → IsSilent server (found l) → IsSilent server (found (look_by stage seen l))
   look_silent stage seen l silent =
       let P : Look Command → Type 0 = λ k. IsSilent server (found k) in
-      found_by P stage seen l (λ at is. refl) (λ at flow side is. shut_silent (server_in side seen)) (left_silent l silent)
+      found_by P stage seen l (λ at is. shut_silent (server_parked (unspoilt_at at seen).parked seen)) (λ at flow side is. shut_silent (server_in side seen)) (left_silent l silent)
 
 -- ---- the chain
 

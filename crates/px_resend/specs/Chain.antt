@@ -2,7 +2,7 @@
 --
 -- Its request is whole from the start: both hooks are asked, and then the flow goes on as any flow does whose request is whole (px_chain). So its server is
 -- dialled, gets the request, and answers; or a hook gives a response in place of the server's. It ends where the flow is finished, also by a response of
--- code 101.
+-- code 101, and its server's side is closed then, whether flows in sequence keep it for a next one or not.
 use Rattle.std.specs.Prelude.{ℕ, false, List, [], ◌∷◌, Option, Some, None}
 use Rattle.px_message.specs.declared.address.Address.{Address}
 use Rattle.px_message.specs.declared.flow.Flow.{Flow}
@@ -27,7 +27,8 @@ use Rattle.px_exchange.specs.Places.{terms_of}
 use Rattle.px_exchange.specs.Replies.{taken_at_request_head, taken_at_request_body}
 use Rattle.px_exchange.specs.Requests.{flow_of}
 use Rattle.px_chain.specs.Chain.{begin, http_chain, sequence}
-use Rattle.px_chain.specs.Sights.{Sight, Standing, server_in, sight_over}
+use Rattle.px_chain.specs.Keeping.{unspoilt_at}
+use Rattle.px_chain.specs.Sights.{Sight, Standing, server_in, server_parked, sight_over}
 use Rattle.px_chain.specs.Stages.{At, Doing, busy, idle, upgraded}
 use Rattle.px_chain.specs.Stages as flows
 use Rattle.px_chain.specs.Streams.{from_here}
@@ -117,9 +118,13 @@ abbrev pub look_for : Flow → Doing → Sight → Look Command → Look Command
 look_for flow (upgraded server) seen found = Ends (finishes flow (shut_server (server_in server seen)))
 look_for flow doing seen found = to_servers_in found
 
--- where the next flow would begin, its own is finished
+-- the close of the side that is kept for a next flow, unless a byte of it or its close came since
+abbrev pub shut_parked : At → Sight → List Command
+shut_parked at seen = shut_server (server_parked (unspoilt_at at seen).parked seen)
+
+-- where the next flow would begin, its own is finished: a side that is kept for that one is closed
 abbrev pub look_by : flows.Stage → Sight → Look Command → Look Command
-look_by (idle at) seen found = Ends []
+look_by (idle at) seen found = Ends (shut_parked at seen)
 look_by (busy at flow doing) seen found = look_for flow doing seen found
 look_by stage seen found = to_servers_in found
 
@@ -147,11 +152,11 @@ module _ (terms : Terms) (recorded : Request) where
   look (goes_on place) prefix = look_by place.stage (sight_over place (all_of_servers prefix)) (flows_of.look place (all_of_servers prefix))
   look over prefix = Ends []
 
-  -- interim responses are for a client
+  -- interim responses are for a client, and of a side that is kept nothing comes before it is closed
   abbrev pub so_far : Stage → List (Timed Event) → List Command
   so_far stage prefix = []
 
-  -- nothing is parked
+  -- no side is parked where its server is dialled
   abbrev pub behind : Stage → List (Timed Event) → List Command
   behind stage prefix = []
 

@@ -18,7 +18,8 @@ use Rattle.px_exchange.specs.declared.taken.Taken.TheVariants.{GoesOn, Responds,
 use Rattle.px_exchange.specs.declared.terms.Terms.{Terms}
 use Rattle.px_exchange.specs.Endings.{shut_server}
 use Rattle.px_exchange.specs.Replies.{taken_at_request_body, taken_at_request_head}
-use Rattle.px_chain.specs.Sights.{Sight, server_in, sight_over}
+use Rattle.px_chain.specs.Keeping.{unspoilt_at}
+use Rattle.px_chain.specs.Sights.{Sight, server_in, server_parked, sight_over}
 use Rattle.px_chain.specs.Stages as flows
 use Rattle.px_chain.proofs.Quiet.{IsOf}
 use Rattle.px_http.specs.Names.{IsOfIts, OfConversation, stays}
@@ -54,7 +55,7 @@ module _ (terms : Terms) (recorded : Request) where
   look_named stage seen l is all =
       let P : Look Command → Type 0 = λ k. AllNamed terms.conv (found k) in
       let Q : flows.Stage → Type 0 = IsOf terms (OfConversation terms.conv) in
-      found_by P stage seen l (λ at here. tt) (λ at flow server here. (subst Q here is, shut_named terms.conv (server_in server seen))) (look_kept terms.conv l all)
+      found_by P stage seen l (λ at here. shut_named terms.conv (server_parked (unspoilt_at at seen).parked seen)) (λ at flow server here. (subst Q here is, shut_named terms.conv (server_in server seen))) (look_kept terms.conv l all)
 
   -- the flow of a stage is the conversation's
   abbrev pub IsIts : Stage → Type 0

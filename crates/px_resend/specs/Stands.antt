@@ -37,13 +37,19 @@ ByDial dialling behind (busy at flow (request_body given most)) = ⊥
 ByDial dialling behind (busy at flow (connection how)) = dialling at
 ByDial dialling behind stage = behind
 
--- where its server is dialled no side is parked
-abbrev pub NoneParked : At → Type 0
-NoneParked at = at.parked ≡ None
+-- and this in both
+abbrev pub IsPastRequest : flows.Stage → Type 0
+IsPastRequest stage = ByDial (λ at. ⊤) ⊤ stage
 
--- and all of its request was sent on there, or is at once: none is streamed
+-- While it goes on no side is parked, since none was before it. Behind its end its own may be kept.
+abbrev pub NoneParked : flows.Stage → Type 0
+NoneParked (busy at flow doing) = at.parked ≡ None
+NoneParked stage = ⊤
+
+-- and all of its request was sent on then, or is at once where its server is dialled: none is streamed
 pub record IsUnparked (stage : flows.Stage) : Type 0 where
-  pub dial : ByDial NoneParked ⊤ stage
+  pub dial : IsPastRequest stage
+  pub none : NoneParked stage
   pub whole : sent_at stage ≡ all_sent
 
 -- the stream of a flow that goes on, at this place

@@ -15,7 +15,8 @@ use Rattle.px_exchange.specs.declared.outcome.Outcome.{Outcome}
 use Rattle.px_exchange.specs.declared.outcome.Outcome.TheVariants as outcomes
 use Rattle.px_exchange.specs.declared.terms.Terms.{Terms}
 use Rattle.px_exchange.specs.Endings.{shut_server}
-use Rattle.px_stream.specs.Tells.{is_idle, outcome_in, phase_flow, upgraded_side}
+use Rattle.px_stream.specs.Heard.{shut_if}
+use Rattle.px_stream.specs.Tells.{is_idle, open_parked, outcome_in, phase_flow, upgraded_side}
 use Rattle.px_stream.specs.declared.stream.Stream.{Stream}
 use Rattle.px_resend.specs.Chain.{Stage, going, resend_chain}
 use Rattle.px_resend.specs.Heard.{all_of_servers}
@@ -65,7 +66,7 @@ finished_by flow used = done_by flow ++ shut_by used
 
 -- where it is idle, its flow is finished; else by its outcome
 abbrev pub FollowsAs : Bool → Outcome → Box Stream → Child → List Command → Type 0
-FollowsAs true outcome stream next more = (next ≡ children.Over) × (more ≡ [])
+FollowsAs true outcome stream next more = (next ≡ children.Over) × (more ≡ shut_if (open_parked stream.value.at.parked stream.value.side))
 FollowsAs false outcomes.Going stream next more = (next ≡ children.GoesOn stream) × (more ≡ [])
 FollowsAs false outcomes.Upgraded stream next more = (next ≡ children.Over) × (more ≡ finished_by (phase_flow stream.value.phase) (upgraded_side stream.value.phase stream.value.side))
 FollowsAs false outcome stream next more = (next ≡ children.Over) × (more ≡ [])

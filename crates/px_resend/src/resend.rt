@@ -6,6 +6,7 @@ ghost use Rattle.px_event.specs.declared.ask.Hook.TheVariants.{RequestBody as At
 ghost use Rattle.px_exchange.specs.Endings.{shut_server};
 ghost use Rattle.px_exchange.specs.Flows.{ask_of};
 ghost use Rattle.px_stream.specs.Anywhere.{IsNew, Somewhere, TakesAnywhere};
+ghost use Rattle.px_stream.specs.Heard.{shut_if};
 ghost use Rattle.px_stream.specs.Stands.{awaits as stream_awaits};
 ghost use Rattle.px_stream.specs.Tells.{outcome_in, phase_flow, sequence_left, upgraded_side};
 ghost use Rattle.px_resend.specs.Chain.{first_at, killed, proxy_in, whole_flow};
@@ -327,12 +328,23 @@ fn follow(stream: Box<Stream>, out: &mut Vec<Command>) -> Result<Child, NoMemory
     ensures follows { IfOk result (λ next. Adds (Follows stream next) out.old.items out.new.items) }
 {
     if stream.is_idle() {
+        close_parked(stream.parked(), out)?;
         return Ok(Child::Over);
     }
     match stream.outcome() {
         Outcome::Going => Ok(Child::GoesOn(stream)),
         Outcome::Upgraded => finish(stream, out),
         Outcome::Connects | Outcome::Next | Outcome::Over => Ok(Child::Over),
+    }
+}
+
+// Closes the side that is kept for a next flow, which does not come.
+fn close_parked(parked: Option<u32>, out: &mut Vec<Command>) -> Result<(), NoMemory>
+    ensures { OnOk result (out.new.items ≡ out.old.items ++ shut_if parked) }
+{
+    match parked {
+        Some(server) => close(Side::Server(server), out),
+        None => Ok(()),
     }
 }
 

@@ -24,12 +24,11 @@ use Rattle.px_exchange.specs.declared.terms.Terms.{Terms}
 use Rattle.px_exchange.specs.Places.{address_of, dialled_for, terms_of}
 use Rattle.px_chain.specs.Chain.{look as look_of}
 use Rattle.px_chain.specs.Sights.{Standing, sight_over}
-use Rattle.px_chain.specs.Stages.{At, busy, connection, place_of, unparked, Sent}
+use Rattle.px_chain.specs.Stages.{At, busy, connection, unparked, Sent}
 use Rattle.px_chain.specs.Stages as stages
 use Rattle.px_chain.specs.Streams.{bytes_of, client_closed, from_here, is_closed}
 use Rattle.px_chain.proofs.FrontLaws.{now_here}
 use Rattle.px_http.specs.declared.conversation.HttpConv.{HttpConv}
-use Rattle.px_stream.specs.Anywhere.{OpensInTime}
 use Rattle.px_stream.specs.Tells.{led_to}
 use Rattle.px_tunnel.specs.declared.upstream.UpstreamTunnel.{UpstreamTunnel}
 use Rattle.px_tunnel.specs.Reaching.{HasHeard}
@@ -250,7 +249,6 @@ module _ (conv : ℕ) (client : Visitor) (boxed : Box HttpConv) (moment : ℕ) (
       let turned : Turn Stage Command = asks_proxy conv client (a_flow place from) (address_of led.flow.request) led.at.dials prefix moment in
       let is : (stack_chain conv client).turn (http place standing) prefix answer ≡ turned =
       ap (λ l. turn_http conv client l place standing prefix answer reply.Dialled) led.led in
-      let Q : stages.Stage → Type 0 = λ s. OpensInTime (place_of s).parked standing.opened prefix in
       let to = asks_there conv client (a_flow place from) led.at.dials prefix moment (goals.Flow boxed) server boxed.value.stream.client_closed next dialled
       (closed_there terms (ahead_at place) boxed.value standing prefix led.at led.flow led.sent led.stage there) asks
       (record {
@@ -260,7 +258,7 @@ module _ (conv : ℕ) (client : Visitor) (boxed : Box HttpConv) (moment : ℕ) (
         from_is = refl;
         used_is = refl;
         there = there;
-        in_time = subst Q led.stage in_time;
+        in_time = in_time;
         dialled = refl;
         waits = led.waits;
       }) in

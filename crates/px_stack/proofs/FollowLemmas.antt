@@ -15,6 +15,7 @@ use Rattle.px_event.specs.Chain.{Timed, Look, NotYet, Asks, Ends, Turn, found_wi
 use Rattle.px_event.specs.Laws.{owed_here}
 use Rattle.px_event.specs.Layer.{AsksOnly, asks_in}
 use Rattle.px_event.specs.View.{View, seen_of}
+use Rattle.px_event.proofs.Seen.{seen_append}
 use Rattle.px_read.specs.Items.{Item, missing, part, complete, bad_head, bad_body}
 use Rattle.px_read.specs.Reader.{State}
 use Rattle.px_read.specs.declared.head.RequestHead.{RequestHead as ReadRequest}
@@ -29,8 +30,9 @@ use Rattle.px_exchange.specs.declared.terms.Terms.{Terms}
 use Rattle.px_exchange.specs.Places.{terms_of}
 use Rattle.px_exchange.specs.Requests.{judged}
 use Rattle.px_chain.specs.Chain.{Connect, behind, connect_by as connect_judged, connect_in, look, sequence, so_far}
+use Rattle.px_chain.specs.Keeping.{is_silent, unspoilt_at, unspoilt_by}
 use Rattle.px_chain.specs.Sights.{IsWithin, Sight, Standing, UsedBytes, request_in, sight_over, used_with}
-use Rattle.px_chain.specs.Stages.{At, busy, coming_down, connection, given_body, given_head, idle, next, request_body, response_body, response_head, upgraded}
+use Rattle.px_chain.specs.Stages.{At, Parked, busy, coming_down, connection, given_body, given_head, idle, next, request_body, response_body, response_head, upgraded}
 use Rattle.px_chain.specs.Stages as stages
 use Rattle.px_chain.specs.Streams.{Since, bytes_of, client_closed, now_over}
 use Rattle.px_chain.proofs.UsedLaws.{request_within}
@@ -41,18 +43,19 @@ use Rattle.px_stream.specs.declared.phase.Phase.TheVariants as phase
 use Rattle.px_stream.specs.declared.phase.Wanted.{Wanted}
 use Rattle.px_stream.specs.declared.phase.Wanted.TheVariants as ready
 use Rattle.px_stream.specs.Anywhere.{IsCounted}
-use Rattle.px_stream.specs.Tells.{asked_tunnel, closed_in, outcome_in, phase_flow, sequence_left, side_rest, upgraded_side, uses_side}
-use Rattle.px_stream.specs.Stands.{IsConnecting as IsTunnelAsked, IsLast, IsLastAt, IsOpen, IsUpgraded, LinkKeeps, PhaseAt, awaited_in, is_last}
+use Rattle.px_stream.specs.Heard.{shut_if}
+use Rattle.px_stream.specs.Tells.{asked_tunnel, closed_in, open_parked, outcome_in, phase_flow, sequence_left, side_rest, upgraded_side, uses_side}
+use Rattle.px_stream.specs.Stands.{IsConnecting as IsTunnelAsked, IsLast, IsLastAt, IsOpen, IsUpgraded, LinkKeeps, PhaseAt, awaited_in, is_last, parked_link, silent_link}
 use Rattle.px_stream.proofs.StateLaws.{ends_where_it_ends}
 use Rattle.px_stack.specs.declared.child.Child.{Child}
 use Rattle.px_stack.specs.declared.child.Child.TheVariants as children
 use Rattle.px_stack.specs.declared.child.Opening.{Opening}
 use Rattle.px_stack.specs.declared.closing.Sides.{Sides}
-use Rattle.px_stack.specs.Chain.{begun, flows_at, hands_by, hands_over, or_stays, proxy_at, stack_chain, tunnel_for, upgrades as upgraded_to}
+use Rattle.px_stack.specs.Chain.{begun, flows_at, hands_by, hands_over, or_stays, owed_at_handing, owing, proxy_at, shut_parked, stack_chain, tunnel_for, upgrades as upgraded_to}
 use Rattle.px_stack.specs.Kept.{awaited_by, connecting_left, left_by, most_asked, tunnel_left}
 use Rattle.px_stack.specs.Laws.{hands, never_connects}
 use Rattle.px_stack.specs.Stages.{Ends as TunnelEnds, Stage, Tunnel, Visitor, connecting, http}
-use Rattle.px_stack.specs.Stands.{InTime, IsChild, IsInFlows, KeepsBy, ahead_at}
+use Rattle.px_stack.specs.Stands.{InTime, StaysInTime, IsChild, IsInFlows, KeepsBy, ahead_at}
 use Rattle.px_stack.specs.Sockets.{is_websocket}
 use Rattle.px_stack.specs.Steps.{Adds, Arrives, AsksBehind, Follows, FollowsAt, GoesOnAs, MayRelay}
 use Rattle.px_stack.proofs.RelayLemmas.{given_twice}
@@ -92,14 +95,14 @@ last_when (phase.Ready (ready.GivenBody flow)) ends = absurd (ends refl)
 -- where it ended, how
 pub data EndsAs (place : Place) (standing : Standing) (stage : stages.Stage) (seen : Sight) (requests : State) (side : Option KeptLink) (found : Phase) : Type 0 where
   by_connect : (at : At) (connects : Connect) → stage ≡ idle at → connect_in place (request_in seen) ≡ Some connects →
-      (last : Wanted) → found ≡ phase.Ready last → IsTunnelAsked connects seen requests last → EndsAs place standing stage seen requests side found
+      (last : Wanted) → found ≡ phase.Ready last → IsTunnelAsked at connects seen requests side last → EndsAs place standing stage seen requests side found
   by_upgrade : (at : At) (flow : Flow) (server : ℕ) → stage ≡ busy at flow (upgraded server) →
       (last : Wanted) → found ≡ phase.Ready last → IsUpgraded flow server seen requests side last → EndsAs place standing stage seen requests side found
   by_end : hands_by place standing stage seen ≡ None → (last : Wanted) → found ≡ phase.Ready last → last ≡ ready.Over → EndsAs place standing stage seen requests side found
 
 idle_as : (place : Place) (standing : Standing) (at : At) (seen : Sight) (requests : State) (side : Option KeptLink) (found : Phase) (last : Wanted) (connects : Option Connect) →
-    connect_in place (request_in seen) ≡ connects → found ≡ phase.Ready last → IsLastAt connects seen requests last → EndsAs place standing (idle at) seen requests side found
-idle_as place standing at seen requests side found last None is same ends = by_end (ap (tunnel_for place standing.used.client at) is) last same ends
+    connect_in place (request_in seen) ≡ connects → found ≡ phase.Ready last → IsLastAt at connects seen requests side last → EndsAs place standing (idle at) seen requests side found
+idle_as place standing at seen requests side found last None is same ends = by_end (ap (tunnel_for place standing.used.client (unspoilt_at at seen)) is) last same ends
 idle_as place standing at seen requests side found last (Some connects) is same ends = by_connect at connects refl is last same ends
 
 ends_as : (terms : Terms) (standing : Standing) (stage : stages.Stage) (seen : Sight) (requests : State) (side : Option KeptLink) (found : Phase) (last : Wanted) →
@@ -136,9 +139,9 @@ module _ (conv : ℕ) (client : Visitor) (place : Place) (flows : HttpConv) (sta
   abbrev looked : Look Command
   looked = look terms standing.stage seen
 
-  -- a WebSocket works off at once what has come
+  -- what HTTP owed while it waited, where it hands over; and a WebSocket works off at once what has come
   abbrev goes_to : Option Stage → Turn Stage Command
-  goes_to to = begun conv client (or_stays (http place standing) to) prefix
+  goes_to to = owing conv client (owed_at_handing to ((flows_at conv client place).so_far standing prefix)) (begun conv client (or_stays (http place standing) to) prefix)
 
   record FollowsBy (next : Child) (more : List Command) (to : Option Stage) : Type 0 where
     there : IsChild conv client next (goes_to to).stage prefix
@@ -172,14 +175,14 @@ module _ (conv : ℕ) (client : Visitor) (place : Place) (flows : HttpConv) (sta
         let P : HttpConv → Type 0 = λ f. IsInFlows conv client place f standing prefix in record { flows = boxed; is = refl; there = subst P (sym same) at; in_time = in_time }
     keeps_by in_time boxed same (Ends owed) goes = absurd (goes owed refl)
 
-    pub goes_on : InTime standing prefix → (boxed : Box HttpConv) → boxed.value ≡ flows → outcome_in flows.stream.phase ≡ outcomes.Going →
+    pub goes_on : StaysInTime terms standing prefix → (boxed : Box HttpConv) → boxed.value ≡ flows → outcome_in flows.stream.phase ≡ outcomes.Going →
         FollowsAt conv client flows (children.Http boxed) [] place standing prefix
     goes_on in_time boxed same is =
         let open_still : is_last flows.stream.phase ≡ true → ⊥ = going_on flows.stream.phase is in
         let P : HttpConv → Type 0 = λ f. sequence_left f.stream + tunnel_left f.stream.terms.place ≤ sequence_left flows.stream + tunnel_left flows.stream.terms.place in
         let Q : Terms → Type 0 = λ t. sequence_left boxed.value.stream + tunnel_left boxed.value.stream.terms.place ≤ sequence_left flows.stream + tunnel_left t.place in
         as_follows (children.Http boxed) [] None (none_follows open_still (hands_over place standing prefix) refl) (record {
-          there = keeps_by in_time boxed same looked (no_end open_still);
+          there = keeps_by (in_time (no_end open_still)) boxed same looked (no_end open_still);
           gives = λ view. append-nil _;
           left = subst Q at.is_at.is_in.terms (subst P (sym same) (omega arith));
         })
@@ -215,9 +218,20 @@ module _ (conv : ℕ) (client : Visitor) (place : Place) (flows : HttpConv) (sta
 
 -- ---- a CONNECT
 
--- what is dialled for it
-abbrev pub dials_for : Opening → List Command
-dials_for kept = commands.Dial kept.dials (unwrap_or kept.proxy kept.address) None ∷ []
+-- what is dialled for it, and behind that the close of a side that was kept for a next flow
+abbrev pub dials_for : Opening → Option ℕ → List Command
+dials_for kept parked = commands.Dial kept.dials (unwrap_or kept.proxy kept.address) None ∷ shut_if parked
+
+-- that is the parked side, unless its keeping has ended
+closes_by : (silent : Bool) (parked : Option Parked) (side : Option KeptLink) → ((own : Parked) → parked ≡ Some own → side ≡ silent_link silent own.server) →
+    shut_if (open_parked parked side) ≡ shut_parked (unspoilt_by silent parked)
+closes_by true None side is = refl
+closes_by false None side is = refl
+closes_by true (Some parked) side is = ap (λ s. shut_if (open_parked (Some parked) s)) (is parked refl)
+closes_by false (Some parked) side is = ap (λ s. shut_if (open_parked (Some parked) s)) (is parked refl)
+
+closes_parked : (parked : Option Parked) (seen : Sight) → shut_if (open_parked parked (parked_link parked seen)) ≡ shut_parked (unspoilt_by (is_silent seen.server seen.shut) parked)
+closes_parked parked seen = closes_by (is_silent seen.server seen.shut) parked (parked_link parked seen) (λ own is. ap (λ p. parked_link p seen) is)
 
 -- only where requests go where they ask to, a tunnel may follow
 record LeavesRoom (place : Place) : Type 0 where
@@ -253,7 +267,7 @@ module _ (conv : ℕ) (client : Visitor) (place : Place) (flows : HttpConv) wher
     sight = sight_over here prefix
 
     abbrev tunnel_of : Connect → Tunnel
-    tunnel_of connects = record { at = at; used = used.client + connects.used; address = connects.address; proxy = proxy_at place }
+    tunnel_of connects = record { at = unspoilt_at at sight; used = used.client + connects.used; address = connects.address; proxy = proxy_at place }
 
     -- what it used had come
     connect_come : IsWithin here prefix → (connects : Connect) → connect_in place (request_in sight) ≡ Some connects → used.client + connects.used ≤ length (bytes_of Client prefix)
@@ -263,13 +277,13 @@ module _ (conv : ℕ) (client : Visitor) (place : Place) (flows : HttpConv) wher
         omega arith
 
     connect_follows : IsInFlows conv client place flows here prefix → (connects : Connect) → connect_in place (request_in sight) ≡ Some connects →
-        (last : Wanted) → flows.stream.phase ≡ phase.Ready last → IsTunnelAsked connects sight flows.stream.requests last →
-        (kept : Opening) (closed : Bool) → kept.flow ≡ flows.stream.at.flow → kept.dials ≡ flows.stream.at.dials → asked_tunnel flows.stream.phase ≡ Some kept.address → kept.proxy ≡ proxy_at place →
-        kept.rest ≡ flows.stream.requests.rest → closed ≡ flows.stream.client_closed → FollowsAt conv client flows (children.Connecting kept closed) (dials_for kept) place here prefix
-    connect_follows in_flows connects is last same asked kept closed flow dials address proxy rest client_is =
+        (last : Wanted) → flows.stream.phase ≡ phase.Ready last → IsTunnelAsked at connects sight flows.stream.requests flows.stream.side last →
+        (kept : Opening) (closed : Bool) (parked : Option ℕ) → parked ≡ open_parked flows.stream.at.parked flows.stream.side → kept.flow ≡ flows.stream.at.flow → kept.dials ≡ flows.stream.at.dials → asked_tunnel flows.stream.phase ≡ Some kept.address → kept.proxy ≡ proxy_at place →
+        kept.rest ≡ flows.stream.requests.rest → closed ≡ flows.stream.client_closed → FollowsAt conv client flows (children.Connecting kept closed) (dials_for kept parked) place here prefix
+    connect_follows in_flows connects is last same asked kept closed parked side_is flow dials address proxy rest client_is =
         let room = leaves_room place sight connects is in
         let tunnel : Tunnel = tunnel_of connects in
-        let to : hands_over place here prefix ≡ Some (connecting tunnel) = ap (tunnel_for place used.client at) is in
+        let to : hands_over place here prefix ≡ Some (connecting tunnel) = ap (tunnel_for place used.client (unspoilt_at at sight)) is in
         let over = hands (terms_of conv client.address place) here (idle at) sight (connecting tunnel) to in
         let placed = in_flows.is_at.is_in.place in
         let counted : IsCounted (ahead_at place) at = in_flows.few in
@@ -278,8 +292,11 @@ module _ (conv : ℕ) (client : Visitor) (place : Place) (flows : HttpConv) wher
         let below : at.flow < 1000000 = counted.few in
         let there : Some connects.address ≡ Some kept.address = sym (ap asked_tunnel same ∙ ap (λ r. asked_tunnel (phase.Ready r)) asked.phase) ∙ address in
         let same_address : kept.address ≡ connects.address = let e : connects.address ≡ kept.address = cc in sym e in
+        let waits : List Command = so_far (terms_of conv client.address place) (idle at) sight in
+        let closes : shut_if parked ≡ shut_parked (unspoilt_at at sight).parked =
+        ap shut_if (side_is ∙ (ap (λ (a : At). open_parked a.parked flows.stream.side) placed.is_here ∙ ap (open_parked at.parked) asked.parked)) ∙ closes_parked at.parked sight in
         let same_server : kept.dials ≡ at.dials = dials ∙ ap (λ (a : At). a.dials) placed.is_here in
-        as_follows conv client place flows here prefix (children.Connecting kept closed) _ (Some (connecting tunnel)) to (record {
+        as_follows conv client place flows here prefix (children.Connecting kept closed) (dials_for kept parked) (Some (connecting tunnel)) to (record {
           there = record {
             kept = kept;
             closed = closed;
@@ -297,20 +314,22 @@ module _ (conv : ℕ) (client : Visitor) (place : Place) (flows : HttpConv) wher
             client = client_is ∙ placed.client;
           };
           gives = λ view.
-              ap (λ l. seen_of view (so_far (terms_of conv client.address place) (idle at) sight ++ found_with (behind (idle at) sight) l) ++ seen_of view (dials_for kept)) over.ends
-              ∙ (ap (λ n. seen_of view (commands.Dial n (unwrap_or kept.proxy kept.address) None ∷ [])) same_server
-              ∙ (ap (λ p. seen_of view (commands.Dial at.dials (unwrap_or p kept.address) None ∷ [])) proxy
-              ∙ ap (λ a. seen_of view (commands.Dial at.dials (unwrap_or (proxy_at place) a) None ∷ [])) same_address));
+              ap (λ l. seen_of view (waits ++ found_with (behind (idle at) sight) l) ++ seen_of view (dials_for kept parked)) over.ends
+              ∙ (sym (seen_append view (waits ++ []) (dials_for kept parked))
+              ∙ (ap (λ n. seen_of view ((waits ++ []) ++ commands.Dial n (unwrap_or kept.proxy kept.address) None ∷ shut_if parked)) same_server
+              ∙ (ap (λ p. seen_of view ((waits ++ []) ++ commands.Dial at.dials (unwrap_or p kept.address) None ∷ shut_if parked)) proxy
+              ∙ (ap (λ a. seen_of view ((waits ++ []) ++ commands.Dial at.dials (unwrap_or (proxy_at place) a) None ∷ shut_if parked)) same_address
+              ∙ ap (λ l. seen_of view ((waits ++ []) ++ commands.Dial at.dials (unwrap_or (proxy_at place) connects.address) None ∷ l)) closes))));
           left = let room_left : tunnel_left place ≡ connecting_left = room.asks in omega arith;
         })
 
   -- whatever the standing
-  module _ (kept : Opening) (closed : Bool) (since : Since) (opened : ℕ) (used : UsedBytes) (told : ℕ) (prefix : List (Timed Event)) where
+  module _ (kept : Opening) (closed : Bool) (parked : Option ℕ) (side_is : parked ≡ open_parked flows.stream.at.parked flows.stream.side) (since : Since) (opened : ℕ) (used : UsedBytes) (told : ℕ) (prefix : List (Timed Event)) where
     abbrev standing_at : stages.Stage → Standing
     standing_at stage = record { stage = stage; since = since; opened = opened; used = used; told = told }
 
     abbrev Dials : stages.Stage → Type 0
-    Dials stage = FollowsAt conv client flows (children.Connecting kept closed) (dials_for kept) place (standing_at stage) prefix
+    Dials stage = FollowsAt conv client flows (children.Connecting kept closed) (dials_for kept parked) place (standing_at stage) prefix
 
     connect_by : (stage : stages.Stage) → IsInFlows conv client place flows (standing_at stage) prefix → outcome_in flows.stream.phase ≡ outcomes.Connects →
         EndsAs place (standing_at stage) stage (sight_over (standing_at stage) prefix) flows.stream.requests flows.stream.side flows.stream.phase →
@@ -319,8 +338,8 @@ module _ (conv : ℕ) (client : Visitor) (place : Place) (flows : HttpConv) wher
     connect_by stage in_flows outcome (by_connect at connects is whole last same asked) flow dials address proxy rest client_is =
         let P : stages.Stage → Type 0 = λ s. IsInFlows conv client place flows (standing_at s) prefix →
         connect_in place (request_in (sight_over (standing_at s) prefix)) ≡ Some connects →
-        IsTunnelAsked connects (sight_over (standing_at s) prefix) flows.stream.requests last → Dials s in
-        subst P (sym is) (λ flows_there whole_there asked_there. connect_follows at since opened used told prefix flows_there connects whole_there last same asked_there kept closed flow dials address proxy rest client_is)
+        IsTunnelAsked at connects (sight_over (standing_at s) prefix) flows.stream.requests flows.stream.side last → Dials s in
+        subst P (sym is) (λ flows_there whole_there asked_there. connect_follows at since opened used told prefix flows_there connects whole_there last same asked_there kept closed parked side_is flow dials address proxy rest client_is)
         in_flows whole asked
     connect_by stage in_flows outcome (by_upgrade at follower server is last same asked) flow dials address proxy rest client_is =
         absurd (let no : outcomes.Upgraded ≡ outcomes.Connects = sym (ap outcome_in same ∙ ap (λ r. outcome_in (phase.Ready r)) asked.phase) ∙ outcome in cc)
@@ -337,12 +356,12 @@ upgraded_not : outcomes.Upgraded ≡ outcomes.Going → ⊥
 upgraded_not is = let no : outcomes.Upgraded ≡ outcomes.Going = is in cc
 
 -- A CONNECT was read: its server is dialled.
-pub connects : (flows : HttpConv) (kept : Opening) (closed : Bool) → outcome_in flows.stream.phase ≡ outcomes.Connects →
+pub connects : (flows : HttpConv) (kept : Opening) (closed : Bool) (parked : Option ℕ) → parked ≡ open_parked flows.stream.at.parked flows.stream.side → outcome_in flows.stream.phase ≡ outcomes.Connects →
     kept.flow ≡ flows.stream.at.flow → kept.dials ≡ flows.stream.at.dials → asked_tunnel flows.stream.phase ≡ Some kept.address → kept.proxy ≡ proxy_at flows.stream.terms.place →
-    kept.rest ≡ flows.stream.requests.rest → closed ≡ flows.stream.client_closed → (key : List ℕ) (moment : ℕ) → Follows key moment flows (children.Connecting kept closed) (dials_for kept)
-connects flows kept closed is flow dials address proxy rest client_is key moment conv client place standing prefix keyed now at in_time =
+    kept.rest ≡ flows.stream.requests.rest → closed ≡ flows.stream.client_closed → (key : List ℕ) (moment : ℕ) → Follows key moment flows (children.Connecting kept closed) (dials_for kept parked)
+connects flows kept closed parked side_is is flow dials address proxy rest client_is key moment conv client place standing prefix keyed now at in_time =
     let last : is_last flows.stream.phase ≡ true = last_when flows.stream.phase (apart flows.stream.phase outcomes.Connects outcomes.Going is connects_not) in
-    connect_by conv client place flows kept closed standing.since standing.opened standing.used standing.told prefix standing.stage at is
+    connect_by conv client place flows kept closed parked side_is standing.since standing.opened standing.used standing.told prefix standing.stage at is
     (found_end conv client place flows standing prefix at last) flow dials address (proxy ∙ ap (λ t. proxy_at t.place) at.is_at.is_in.terms) rest client_is
 
 -- ---- another protocol

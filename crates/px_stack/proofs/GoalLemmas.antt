@@ -26,7 +26,7 @@ use Rattle.px_stack.specs.Stages.{Link, Tunnel, Visitor, a_flow, a_tunnel}
 use Rattle.px_stack.specs.Stands.{IsAskedFor, ahead_at}
 use Rattle.px_stack.specs.Steps.{HearsGoal}
 use Rattle.px_stack.proofs.RelayLemmas.{longer_bytes}
-use Rattle.px_stack.proofs.TimeLemmas.{in_time_more}
+use Rattle.px_stack.proofs.TimeLemmas.{in_time_more, opens_in_time}
 
 -- ---- a CONNECT of the client's
 
@@ -111,8 +111,8 @@ hears_flow boxed after event hears same conv client moment (a_flow place from) l
       stage = led.stage;
       from_is = led.from_is;
       used_is = led.used_is;
-      there = hears.hears (terms_of conv client.address place) (ahead_at place) led.standing prefix moment led.at from.flow from.sent led.stage led.in_time led.there;
-      in_time = in_time_more led.at.parked led.standing.opened prefix e led.there.is_at.within.opened led.in_time;
+      there = hears.hears (terms_of conv client.address place) (ahead_at place) led.standing prefix moment led.at from.flow from.sent led.stage (opens_in_time led.at.parked led.standing prefix led.in_time) led.there;
+      in_time = in_time_more led.standing prefix e led.there.is_at.within.opened led.in_time;
       dialled = led.dialled;
       waits = subst P (sym same) led.waits;
     }

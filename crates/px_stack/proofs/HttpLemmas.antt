@@ -12,9 +12,8 @@ use Rattle.px_event.proofs.Steps.{Takes, Resumes, onward, past_end}
 use Rattle.px_exchange.specs.declared.place.Place.{Place}
 use Rattle.px_exchange.specs.declared.terms.Terms.{Terms}
 use Rattle.px_exchange.specs.Places.{terms_of}
-use Rattle.px_chain.specs.Chain.{http_chain, passed, sequence}
-use Rattle.px_chain.specs.Sights.{IsWithin, Standing, sight_over}
-use Rattle.px_chain.specs.Stages.{place_of}
+use Rattle.px_chain.specs.Chain.{http_chain, sequence}
+use Rattle.px_chain.specs.Sights.{IsWithin, Standing}
 use Rattle.px_chain.proofs.FrontLaws.{now_here, now_more}
 use Rattle.px_http.specs.declared.conversation.HttpConv.{HttpConv}
 use Rattle.px_stream.specs.Anywhere.{IsInSequence, Somewhere}
@@ -22,13 +21,13 @@ use Rattle.px_stream.specs.Stands.{IsAt}
 use Rattle.px_stream.specs.Tells.{KeepsLittle, keeps_no_body, sequence_left}
 use Rattle.px_stack.specs.declared.child.Child.{Child}
 use Rattle.px_stack.specs.declared.child.Child.TheVariants as children
-use Rattle.px_stack.specs.Chain.{flows_at, stack_chain, turn_flows}
+use Rattle.px_stack.specs.Chain.{flows_at, stack_chain, turn_flows, follows_to}
 use Rattle.px_stack.specs.Kept.{http_keeps_no_body, kept_by, left_by, tunnel_left}
 use Rattle.px_stack.specs.Stages.{Stage, Visitor, connecting, http, over, raw, reaching, socket, undecided}
-use Rattle.px_stack.specs.Stands.{InTime, IsChild, IsInFlows, IsSomewhere, Keeps, KeepsBy, ahead_at}
-use Rattle.px_stack.specs.Steps.{Follows, IsPlain, ResumesChild, TakesChild, follows_to}
+use Rattle.px_stack.specs.Stands.{InTime, StaysInTime, IsChild, IsInFlows, IsSomewhere, Keeps, KeepsBy, ahead_at}
+use Rattle.px_stack.specs.Steps.{Follows, IsPlain, ResumesChild, TakesChild}
 use Rattle.px_stack.proofs.LedLemmas.{plain_turn}
-use Rattle.px_stack.proofs.TimeLemmas.{in_time_more, in_time_passed, in_time_turned}
+use Rattle.px_stack.proofs.TimeLemmas.{in_time_more, in_time_turned}
 
 -- ---- where HTTP is kept
 
@@ -87,17 +86,15 @@ not_ended NotYet conv client boxed stage prefix owed is ends = let no : NotYet �
 not_ended (Asks ask) conv client boxed stage prefix owed is ends = let no : Asks ask ≡ Ends owed = ends in cc
 not_ended (Ends other) conv client boxed stage prefix owed is ends = let no : children.Http boxed ≡ children.Over = is in cc
 
--- ---- a side that is parked was connected before the client closed, over one event more and behind a reply
+-- ---- the client closed since the open side was connected, over one event more and behind a reply
 
-later : (terms : Terms) (standing : Standing) (prefix : List (Timed Event)) (e : Timed Event) → IsWithin standing prefix → InTime standing prefix →
-    InTime (passed sequence terms standing (sight_over standing (prefix ++ e ∷ []))) (prefix ++ e ∷ [])
-later terms standing prefix e within in_time =
-    in_time_passed terms standing (prefix ++ e ∷ []) (in_time_more (place_of standing.stage).parked standing.opened prefix e within.opened in_time)
+later : (conv : ℕ) (client : Visitor) (place : Place) (standing : Standing) (prefix : List (Timed Event)) (e : Timed Event) → IsWithin standing prefix → InTime standing prefix →
+    StaysInTime (terms_of conv client.address place) ((flows_at conv client place).pass standing (prefix ++ e ∷ [])).stage (prefix ++ e ∷ [])
+later conv client place standing prefix e within in_time = λ no_end. in_time_more standing prefix e within.opened in_time
 
 turned_on : (conv : ℕ) (client : Visitor) (place : Place) (standing : Standing) (prefix : List (Timed Event)) (answer : Timed Reply) → InTime standing prefix →
-    InTime ((flows_at conv client place).pass ((flows_at conv client place).turn standing prefix answer).stage prefix).stage prefix
-turned_on conv client place standing prefix answer in_time =
-    in_time_passed (terms_of conv client.address place) ((flows_at conv client place).turn standing prefix answer).stage prefix (in_time_turned (terms_of conv client.address place) standing prefix answer in_time)
+    StaysInTime (terms_of conv client.address place) ((flows_at conv client place).pass ((flows_at conv client place).turn standing prefix answer).stage prefix).stage prefix
+turned_on conv client place standing prefix answer in_time = in_time_turned (terms_of conv client.address place) standing prefix answer in_time
 
 -- ---- an event
 
@@ -130,7 +127,7 @@ module _ (conv : ℕ) (client : Visitor) (boxed : Box HttpConv) (after : HttpCon
       let longer : List (Timed Event) = prefix ++ e ∷ [] in
       let on = (flows_at conv client place).pass standing longer in
       let to : Turn Stage Command = follows_to conv client place on.stage longer in
-      let next = follows conv client place on.stage longer refl (sym (now_more standing.since prefix e within.since)) at (later (terms_of conv client.address place) standing prefix e within in_time) in
+      let next = follows conv client place on.stage longer refl (sym (now_more standing.since prefix e within.since)) at (later conv client place standing prefix e within in_time) in
       onward is next.there
       (λ view. gave_both view ((flows_at conv client place).so_far standing prefix) on.owed (owed_here (flows_at conv client place) on.stage longer) to.owed
       (owed_here (stack_chain conv client) to.stage longer) (gives view) (next.gives view))
@@ -210,7 +207,7 @@ module _ (key : List ℕ) (boxed : Box HttpConv) (after : HttpConv) (child : Chi
   takes_left_by conv client event place standing prefix within in_time goes (onward is at gives) =
       let e : Timed Event = record { moment = moment; value = event } in
       (follows conv (keyed client) place ((flows_at conv client place).pass standing (prefix ++ e ∷ [])).stage (prefix ++ e ∷ []) refl
-      (sym (now_more standing.since prefix e within.since)) at (later (terms_of conv client.address place) standing prefix e within in_time)).left
+      (sym (now_more standing.since prefix e within.since)) at (later conv (keyed client) place standing prefix e within in_time)).left
   takes_left_by conv client event place standing prefix within in_time goes (past_end owed is at gives) =
       absurd (goes owed is)
 
@@ -236,6 +233,6 @@ module _ (key : List ℕ) (boxed : Box HttpConv) (after : HttpConv) (child : Chi
       let resumed = resumes (terms_of conv client.address kept.place) (ahead_at kept.place) kept.standing prefix kept.there in
       let flows = flows_at conv client kept.place in
       let here = (follows conv (keyed client) kept.place (flows.pass (flows.turn kept.standing prefix (record { moment = moment; value = reply })).stage prefix).stage prefix refl (sym (now_here moment prefix)) resumed.place
-      (turned_on conv client kept.place kept.standing prefix (record { moment = moment; value = reply }) kept.in_time)).left in
+      (turned_on conv (keyed client) kept.place kept.standing prefix (record { moment = moment; value = reply }) kept.in_time)).left in
       let same = places_left conv client kept.place kept.standing prefix kept.there in
       omega arith

@@ -87,7 +87,7 @@ module _ (conv : ℕ) (client : Visitor) (kept : Opening) (server : ℕ) (rest :
     follows_at tunnel link since prefix at =
         follows.holds conv client (inner_place tunnel link) (inner_standing tunnel link since) prefix refl at.now
         (begins.begins (terms_of conv client.address (inner_place tunnel link)) 1 (inner_standing tunnel link since) prefix (may_begin tunnel link since prefix at)).is_there
-        (open_in_time (Some (record { server = link.server; address = tunnel.address })) link.opened prefix at.client)
+        (λ no_end. open_in_time (inner_standing tunnel link since) prefix at.client)
 
     goes_inside : GoesInside conv client kept server rest moment next (begins.more ++ follows.more)
     goes_inside tunnel link since prefix at =

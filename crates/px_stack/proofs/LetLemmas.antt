@@ -1,9 +1,10 @@
 -- Where another proxy has answered: a tunnel of the client's is told of, or a flow goes on, or the one or the other is refused.
-use Rattle.std.proofs.Common.{◌≡◌, ℕ, ◌+◌, ◌≤◌, ◌<◌, Bool, true, false, List, [], ◌∷◌, ◌++◌, length, drop, Option, Some, None, refl, ap, sym, ◌∙◌, subst, arith, append_assoc}
+use Rattle.std.proofs.Common.{◌≡◌, ℕ, ◌+◌, ◌≤◌, ◌<◌, Bool, true, false, List, [], ◌∷◌, ◌++◌, length, drop, Some, None, refl, ap, sym, ◌∙◌, subst, arith, append_assoc}
 use Rattle.std.specs.Prelude.{IfOk, OnOk, Result, Ok, Err}
 use Rattle.std.specs.Global.{Box}
 use Rattle.std.specs.List.{flat_map}
 use Rattle.std.proofs.lemmas.Bool.{eqb-true}
+use Rattle.std.proofs.Math.Seq.{drop-length}
 use Rattle.std.proofs.lemmas.List.{append-nil, drop_all}
 use Rattle.px_message.specs.declared.fault.Fault.{Fault}
 use Rattle.px_message.specs.declared.fault.Fault.TheVariants.{UpstreamRefused}
@@ -23,27 +24,27 @@ use Rattle.px_exchange.specs.Endings.{ends_by_fault, refuses, shut_all, shut_cli
 use Rattle.px_exchange.specs.Places.{terms_of}
 use Rattle.px_chain.specs.Chain.{reached}
 use Rattle.px_chain.specs.Sights.{Standing}
-use Rattle.px_chain.specs.Stages.{At, Parked, busy, connection, response_head, Sent}
+use Rattle.px_chain.specs.Stages.{At, busy, connection, response_head, Sent}
 use Rattle.px_chain.specs.Streams.{Since, bytes_of, client_closed, from_here, is_closed, now_over}
 use Rattle.px_chain.proofs.FrontLaws.{now_here, open_behind}
 use Rattle.px_http.specs.declared.conversation.HttpConv.{HttpConv}
 use Rattle.px_stream.specs.declared.phase.Asked.TheVariants as asked
 use Rattle.px_stream.specs.declared.phase.Phase.{Phase}
 use Rattle.px_stream.specs.declared.phase.Phase.TheVariants as phase
-use Rattle.px_stream.specs.Anywhere.{MayReach, OpensInTime, Reaches, Somewhere, reached_owes}
+use Rattle.px_stream.specs.Anywhere.{MayReach, Reaches, Somewhere, reached_owes}
 use Rattle.px_stream.specs.Tells.{IsDialling, dialled_flow, sequence_left}
-use Rattle.px_stack.proofs.TimeLemmas.{in_time_passed}
+use Rattle.px_stack.proofs.TimeLemmas.{in_time_connected, open_in_time}
 use Rattle.px_stack.specs.declared.child.Child.{Child}
 use Rattle.px_stack.specs.declared.child.Child.TheVariants as children
 use Rattle.px_stack.specs.declared.child.Goal.{Goal as KeptGoal}
 use Rattle.px_stack.specs.declared.child.Goal.TheVariants as goals
 use Rattle.px_stack.specs.declared.child.Opening.{Opening}
-use Rattle.px_stack.specs.Chain.{closed_before, closed_of, connected_on, flows_at, is_empty, is_shut, pass_reached, stack_chain, text_of, text_on, unless_closed, used_proxy, way_by, way_to}
+use Rattle.px_stack.specs.Chain.{closed_before, closed_of, connected_on, flows_at, follows_to, is_empty, is_shut, pass_reached, stack_chain, text_behind, text_of, text_on, unless_closed, used_proxy, way_by, way_to}
 use Rattle.px_stack.specs.Kept.{awaited_by, goal_left, left_by, tunnel_left}
 use Rattle.px_tunnel.proofs.UpstreamLemmas.{granted_within}
 use Rattle.px_stack.specs.Stages.{Dialling, Goal, Link, Stage, Tunnel, Visitor, a_flow, a_tunnel, over, reaching}
-use Rattle.px_stack.specs.Stands.{InTime, IsAskedFor, IsChild, IsGoal, IsLedOn, ahead_at}
-use Rattle.px_stack.specs.Steps.{Adds, Arrives, CanGoOn, CanReach, EndsRefused, Follows, FollowsAt, IsBehind, IsFewDials, IsGoalSomewhere, IsLetThrough, IsTurnedAway, Leads, LeadsThere, LetsThrough, MayDecide, MayGoOn, Tells, TurnsAway, flow_reached, follows_to}
+use Rattle.px_stack.specs.Stands.{StaysInTime, IsAskedFor, IsChild, IsGoal, IsLedOn, ahead_at}
+use Rattle.px_stack.specs.Steps.{Adds, Arrives, CanGoOn, CanReach, EndsRefused, Follows, FollowsAt, IsBehind, IsFewDials, IsGoalSomewhere, IsLetThrough, IsTurnedAway, Leads, LeadsThere, LetsThrough, MayDecide, MayGoOn, Tells, TurnsAway, flow_reached}
 use Rattle.px_stack.proofs.LedLemmas.{closed_there, flow_there}
 use Rattle.px_stack.proofs.SaidLemmas.{same_close, same_text}
 use Rattle.px_stack.proofs.RelayLemmas.{given_twice}
@@ -210,6 +211,16 @@ module _ (conv : ℕ) (client : Visitor) (server : ℕ) (shut before : Bool) (mo
 
 -- ---- a flow goes on
 
+-- where something came behind the proxy's head the client has not closed, and else the way begins there
+connected_in_time : (conv : ℕ) (client : Visitor) (place : Place) (from : Dialling) (link : Link) (since : Since) (prefix : List (Timed Event)) (used : ℕ) (empty : Bool) →
+    is_empty (text_behind link used prefix) ≡ empty →
+    StaysInTime (terms_of conv client.address place) ((flows_at conv client place).pass (connected_on place from (way_by empty link used (length prefix)) since) prefix).stage prefix
+connected_in_time conv client place from link since prefix used true is =
+    in_time_connected (terms_of conv client.address place) (record from.at { dials = from.at.dials + 1 }) (reached place from.flow) link.server from.sent since (length prefix) (record { client = from.used; server = 0 }) 0
+    prefix (drop-length prefix)
+connected_in_time conv client place from link since prefix used false is =
+    λ no_end. open_in_time ((flows_at conv client place).pass (connected_on place from (way_by false link used (length prefix)) since) prefix).stage prefix (heard_open (client_closed prefix) (drop used (text_of link.server (drop link.opened prefix))) is)
+
 regroup : (a b c d : List Command) → (a ++ b) ++ (c ++ d) ≡ (a ++ (b ++ c)) ++ d
 regroup a b c d = append_assoc a b (c ++ d) ∙ (ap (λ l. a ++ l) (sym (append_assoc b c d)) ∙ sym (append_assoc a (b ++ c) d))
 
@@ -256,9 +267,9 @@ module _ (conv : ℕ) (client : Visitor) (boxed : Box HttpConv) (place : Place) 
         now = may.now ∙ sym (now_here (now_over since prefix) prefix);
       }
 
-  -- no side is parked any more
-  in_time_on : InTime there_on prefix
-  in_time_on = let P : Option Parked → Type 0 = λ p. OpensInTime p way.opened prefix in subst P (sym (ap (λ (a : At). a.parked) led.from_is)) tt
+  -- behind the client's close nothing was heard of it, and the flow ends there
+  in_time_on : StaysInTime (terms_of conv client.address place) ((flows_at conv client place).pass there_on prefix).stage prefix
+  in_time_on = connected_in_time conv client place from link reached_since prefix used (is_empty (text_behind link used prefix)) refl
 
   module _ (after : HttpConv) (next : Child) (out mid : List Command) (second : List Command) (reaches : Reaches boxed.value.stream after.stream moment rest out mid)
       (follows : Follows client.key moment after next second) where
@@ -270,7 +281,7 @@ module _ (conv : ℕ) (client : Visitor) (boxed : Box HttpConv) (place : Place) 
     reached_on =
         follows conv client place on_there.stage prefix refl (may.now ∙ sym (now_here (now_over since prefix) prefix))
         (reaches.reaches (terms_of conv client.address place) (ahead_at place) led.standing there_on prefix may_reach).is_there
-        (in_time_passed (terms_of conv client.address place) there_on prefix in_time_on)
+        in_time_on
 
     -- its server is owed that at the place where it is
     owes_same : reached_owes may_reach.sent place may_reach.flow may_reach.at.dials ≡ reached_owes from.sent place from.flow link.server

@@ -14,8 +14,9 @@ use Rattle.px_event.specs.Laws.{owed_here}
 use Rattle.px_event.specs.Layer.{AsksOnly}
 use Rattle.px_event.specs.View.{View, seen_of}
 use Rattle.px_event.proofs.Steps.{Takes, onward}
-use Rattle.px_chain.specs.Sights.{request_in, sight_over}
-use Rattle.px_chain.specs.Stages.{At}
+use Rattle.px_chain.specs.Keeping.{unspoilt_at}
+use Rattle.px_chain.specs.Sights.{Standing, request_in, sight_over}
+use Rattle.px_chain.specs.Stages.{place_of}
 use Rattle.px_event.specs.Sides.{closes, piece_of}
 use Rattle.px_chain.specs.Streams.{Since, client_closed}
 use Rattle.px_chain.proofs.FrontLaws.{now_more}
@@ -23,7 +24,7 @@ use Rattle.px_stack.specs.declared.child.Child.{Child}
 use Rattle.px_stack.specs.declared.child.Child.TheVariants as children
 use Rattle.px_stack.specs.declared.child.Opening.{Opening}
 use Rattle.px_stack.specs.declared.closing.Sides.{Sides}
-use Rattle.px_stack.specs.Chain.{begun, closes_all, follows, goes_by, hands_over, has_answered, inner_place, inner_standing, is_empty, is_shut, opening_look, opening_text, or_stays, stack_chain, text_on, tunnel_ends, tunnel_for, tunnel_found}
+use Rattle.px_stack.specs.Chain.{begun, closes_all, flows_at, follows, goes_by, hands_over, has_answered, inner_place, inner_standing, is_empty, is_shut, opening_look, opening_text, or_stays, owed_at_handing, stack_chain, text_on, tunnel_ends, tunnel_for, tunnel_found}
 use Rattle.px_stack.specs.Decides.{Decision, decided, decided_by, has_method, is_http, is_raw, may_have_method, still}
 use Rattle.px_stack.specs.Kept.{awaited_by}
 use Rattle.px_stack.specs.Laws.{never_connects}
@@ -89,8 +90,8 @@ module _ (conv : ℕ) (client : Visitor) (next : Child) (more : List Command) (t
   -- HTTP that begins in a tunnel does not hand over
   none_handed : hands_over (inner_place tunnel link) (inner_standing tunnel link since) prefix ≡ None
   none_handed =
-      let at : At = record tunnel.at { parked = Some (record { server = link.server; address = tunnel.address }) } in
-      ap (tunnel_for (inner_place tunnel link) tunnel.used at)
+      let inner : Standing = inner_standing tunnel link since in
+      ap (tunnel_for (inner_place tunnel link) tunnel.used (unspoilt_at (place_of inner.stage) (sight_over inner prefix)))
       (never_connects tunnel.address (Some link.server) tunnel.proxy (request_in (sight_over (inner_standing tunnel link since) prefix)))
 
   arrives_http : client_closed prefix ≡ false → decided (opening_text tunnel prefix) (has_answered link prefix) ≡ is_http →
@@ -98,10 +99,12 @@ module _ (conv : ℕ) (client : Visitor) (next : Child) (more : List Command) (t
       Arrives conv client next more (undecided tunnel link since) prefix
   arrives_http open_still is to =
       let there : Stage = http (inner_place tunnel link) (inner_standing tunnel link since) in
+      let waits : List Command = (flows_at conv client (inner_place tunnel link)).so_far (inner_standing tunnel link since) prefix in
       let P : Option Stage → Type 0 = λ o. IsChild conv client next (begun conv client (or_stays there o) prefix).stage prefix in
       arrives_at there (goes_open tunnel link since prefix is_http open_still is) (subst P none_handed to.there)
       (λ view. to.gives view
-      ∙ ap (λ o. seen_of view ((begun conv client (or_stays there o) prefix).owed ++ owed_here (stack_chain conv client) (begun conv client (or_stays there o) prefix).stage prefix)) none_handed)
+      ∙ ap (λ o. seen_of view ((owed_at_handing o waits ++ (begun conv client (or_stays there o) prefix).owed)
+      ++ owed_here (stack_chain conv client) (begun conv client (or_stays there o) prefix).stage prefix)) none_handed)
 
   -- nothing is decided yet, or it ends before that
   arrives_open : (kept : Opening) (server : ℕ) → client_closed prefix ≡ false → decided (opening_text tunnel prefix) (has_answered link prefix) ≡ still →

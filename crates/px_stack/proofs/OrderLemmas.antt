@@ -27,8 +27,9 @@ use Rattle.px_exchange.specs.Texts.{connected_text}
 use Rattle.px_exchange.specs.Endings.{ends_by_fault, refuses, shut_all, shut_client, shut_server}
 use Rattle.px_exchange.specs.Places.{address_of, dialled_for, terms_of}
 use Rattle.px_chain.specs.Chain.{Connect, behind as behind_of, connect_in, look as look_of, so_far as so_far_of}
+use Rattle.px_chain.specs.Keeping.{shut_by_byte, shut_stray, unspoilt_at}
 use Rattle.px_chain.specs.Sights.{Sight, Standing, request_in, server_parked, sight_over}
-use Rattle.px_chain.specs.Stages.{At, busy, coming_down, connection, given_body, given_head, idle, next, request_body, response_body, response_head, unparked, upgraded, Sent, all_sent, going_up}
+use Rattle.px_chain.specs.Stages.{At, Parked, busy, coming_down, connection, given_body, given_head, idle, next, request_body, response_body, response_head, unparked, upgraded, Sent, all_sent, going_up}
 use Rattle.px_chain.specs.Stages as flows
 use Rattle.px_chain.specs.Streams.{Since, client_closed, from_here, now_over}
 use Rattle.px_http.proofs.OrderLemmas.{is_counted as is_counted_there, is_counted_at, is_past, is_past_at, leaves_flows}
@@ -41,9 +42,10 @@ use Rattle.px_relay.specs.Sending.{Terms}
 use Rattle.px_relay.specs.Sights.{Sight as SocketSight}
 use Rattle.px_relay.specs.Stages.{At as MessageAt, Stage as Frames, holding, over as ended, relaying}
 use Rattle.px_stream.specs.Anywhere.{reached_owes}
-use Rattle.px_stack.specs.Chain.{answer_of, asks_proxy, begun, closed_before, closed_of, closes_all, dialled_by, finished_flow, flows_at, follows, goes_by, hands_by, has_answered, is_shut, led_at, led_by, opening_text, or_stays, pass_http, pass_reached, pass_socket, raw_look, socket_sight, socket_terms, stack_chain, tunnel_for, tunnel_found, turn_connected, turn_dial, turn_flows, turn_http, upgrades, used_proxy, way_to, connected_on}
+use Rattle.px_stack.specs.Chain.{answer_of, asks_proxy, begun, closed_before, closed_of, closes_all, dialled_by, finished_flow, flows_at, follows, goes_by, hands_by, hands_over, has_answered, is_shut, led_at, led_by, opening_text, or_stays, owed_at_handing, shut_parked, pass_http, pass_reached, pass_socket, raw_look, socket_sight, socket_terms, stack_chain, tunnel_for, tunnel_found, turn_connected, turn_dial, turn_flows, turn_http, upgrades, used_proxy, way_to, connected_on}
 use Rattle.px_stack.specs.Decides.{Decision, decided, is_http, is_raw, still}
 use Rattle.px_stack.specs.Frames.{AreSaid, IsOver, pass_says, turn_says}
+use Rattle.px_stack.specs.Laws.{handing_owes}
 use Rattle.px_stack.specs.Sockets.{is_websocket}
 use Rattle.px_stack.specs.Stages.{Dialling, Ends as TunnelEnds, Goal, Link, Stage, Tunnel, Visitor, a_flow, a_tunnel, connecting, http, over, raw, reaching, socket, undecided}
 
@@ -133,6 +135,33 @@ parked_still NoServer owed is = is
 parked_still (ByServer server true) owed is = is
 parked_still (ByServer server false) owed is = record { ordered = is.ordered; none = is.none; ends = is.ends }
 
+-- so is one of which a byte came, and one where a CONNECT came
+stray_still : (parked : Option Parked) (seen : Sight) → IsStill (shut_stray parked seen)
+stray_still None seen = record { ordered = tt; none = λ index. tt; ends = λ index e. e }
+stray_still (Some parked) seen = by seen.server
+  where
+    by : (bytes : List ℕ) → IsStill (shut_by_byte parked.server bytes)
+    by [] = record { ordered = tt; none = λ index. tt; ends = λ index e. e }
+    by (byte ∷ more) = record { ordered = tt; none = λ index. tt; ends = λ index e. e }
+
+unparked_still : (parked : Option Parked) → IsStill (shut_parked parked)
+unparked_still None = record { ordered = tt; none = λ index. tt; ends = λ index e. e }
+unparked_still (Some parked) = record { ordered = tt; none = λ index. tt; ends = λ index e. e }
+
+both_still : (first owed : List Command) → IsStill first → IsStill owed → IsStill (first ++ owed)
+both_still first owed a b = record {
+  ordered = ordered_both first owed a.ordered b.ordered (λ index ends. absurd (a.ends index ends));
+  none = λ index. none_both index first owed (a.none index) (b.none index);
+  ends = λ index ends. neither index (ends_both index first owed ends);
+}
+  where
+    neither : (index : ℕ) → EndsOneOf index first ⊎ EndsOneOf index owed → ⊥
+    neither index (inl e) = a.ends index e
+    neither index (inr e) = b.ends index e
+
+dials_still : (server : ℕ) (address : Address) (owed : List Command) → IsStill owed → IsStill (commands.Dial server address None ∷ owed)
+dials_still server address owed is = record { ordered = is.ordered; none = is.none; ends = is.ends }
+
 sends_still : (side : Side) (text : List ℕ) (owed : List Command) → IsStill owed → IsStill (commands.Send side text ∷ owed)
 sends_still side text owed is = record { ordered = is.ordered; none = is.none; ends = is.ends }
 
@@ -221,10 +250,10 @@ module _ (conv : ℕ) (client : Visitor) where
   same_follows : (place : Place) (standing : Standing) → Follows standing (http place standing)
   same_follows place standing = record { keeps = λ counted index before. before; leads = λ is. is }
 
-  tunnel_follows : (place : Place) (standing : Standing) (used : ℕ) (at : At) (connect : Option Connect) → standing.stage ≡ idle at →
-      Follows standing (or_stays (http place standing) (tunnel_for place used at connect))
-  tunnel_follows place standing used at None is = same_follows place standing
-  tunnel_follows place standing used at (Some connect) is =
+  tunnel_follows : (place : Place) (standing : Standing) (used : ℕ) (at : At) (seen : Sight) (connect : Option Connect) → standing.stage ≡ idle at →
+      Follows standing (or_stays (http place standing) (tunnel_for place used (unspoilt_at at seen) connect))
+  tunnel_follows place standing used at seen None is = same_follows place standing
+  tunnel_follows place standing used at seen (Some connect) is =
       record { keeps = λ counted index before. ap (λ s. is_past s index) (sym is) ∙ before; leads = λ counted. refl }
 
   -- the flow that becomes a WebSocket is the one that HTTP counts
@@ -240,7 +269,7 @@ module _ (conv : ℕ) (client : Visitor) where
 
   hands_follow : (place : Place) (standing : Standing) (stage : flows.Stage) (seen : Sight) → standing.stage ≡ stage →
       Follows standing (or_stays (http place standing) (hands_by place standing stage seen))
-  hands_follow place standing (idle at) seen is = tunnel_follows place standing standing.used.client at (connect_in place (request_in seen)) is
+  hands_follow place standing (idle at) seen is = tunnel_follows place standing standing.used.client at seen (connect_in place (request_in seen)) is
   hands_follow place standing (busy at flow (request_body given most)) seen is = same_follows place standing
   hands_follow place standing (busy at flow (connection sent)) seen is = same_follows place standing
   hands_follow place standing (busy at flow (response_head side how)) seen is = same_follows place standing
@@ -256,6 +285,16 @@ module _ (conv : ℕ) (client : Visitor) where
   quietly : (stage to : Stage) → ((index : ℕ) → is_behind stage index ≡ true → is_behind to index ≡ true) → is_counted to ≡ true → Leaves stage [] to
   quietly stage to keeps leads =
       record { ordered = tt; asks_none = λ index before. tt; ends = λ index ends. absurd ends; keeps = keeps; leads = leads }
+
+  -- where nothing is asked, and no flow ends
+  still_leaves : (stage : Stage) (owed : List Command) → is_counted stage ≡ true → IsStill owed → Leaves stage owed stage
+  still_leaves stage owed leads is = record {
+    ordered = is.ordered;
+    asks_none = λ index before. is.none index;
+    ends = λ index ends. absurd (is.ends index ends);
+    keeps = λ index before. before;
+    leads = leads;
+  }
 
   -- what follows is past what the tunnel is past
   follows_behind : (d : Decision) (tunnel : Tunnel) (link : Link) (since : Since) (index : ℕ) → nat_lt index tunnel.at.flow ≡ true →
@@ -385,7 +424,10 @@ module _ (conv : ℕ) (client : Visitor) where
       let to : Stage = pass_http conv client place on.stage prefix in
       let first : Leaves (http place standing) on.owed to =
       leads_on place standing on.stage on.owed to (hands_follow place on.stage on.stage.stage (sight_over on.stage prefix) refl) ((flows_leave place).passes standing prefix is) in
-      leaves_further (http place standing) to _ on.owed _ first (begun_leaves to prefix first.leads)
+      let handed : List Command = owed_at_handing (hands_over place on.stage prefix) ((flows_at conv client place).so_far on.stage prefix) in
+      let still : IsStill handed = handing_owes IsStill nothing_still stray_still (terms_of conv client.address place) on.stage on.stage.stage (sight_over on.stage prefix) in
+      leaves_further (http place standing) to _ on.owed _ first
+      (leaves_further to to _ handed _ (still_leaves to handed first.leads still) (begun_leaves to prefix first.leads))
 
   -- a flow goes on whose server is reached
   flow_leaves : (sent : Sent) (place : Place) (from : Dialling) (link : Link) (since : Since) (to : Standing) →
@@ -417,13 +459,14 @@ module _ (conv : ℕ) (client : Visitor) where
 
   -- a reply to a dial, as the rest of what is owed there
   dial_leaves : (tunnel : Tunnel) (owed : List Command) (to : Stage) → IsStill owed → ((index : ℕ) → nat_lt index tunnel.at.flow ≡ true → is_behind to index ≡ true) →
-      is_counted to ≡ true → Leaves (connecting tunnel) (commands.Dial tunnel.at.dials (dialled_by tunnel) None ∷ owed) to
+      is_counted to ≡ true → Leaves (connecting tunnel) (commands.Dial tunnel.at.dials (dialled_by tunnel) None ∷ (shut_parked tunnel.at.parked ++ owed)) to
   dial_leaves tunnel owed to is keeps leads =
-      record { ordered = is.ordered; asks_none = λ index before. is.none index; ends = λ index ends. absurd (is.ends index ends); keeps = keeps; leads = leads }
+      let all = both_still (shut_parked tunnel.at.parked) owed (unparked_still tunnel.at.parked) is in
+      record { ordered = all.ordered; asks_none = λ index before. all.none index; ends = λ index ends. absurd (all.ends index ends); keeps = keeps; leads = leads }
 
   -- a proxy is sent the request for a tunnel, or the client is told
   connected_turns : (proxy : Option Address) (tunnel : Tunnel) (prefix : List (Timed Event)) (moment : ℕ) →
-      Leaves (connecting tunnel) (commands.Dial tunnel.at.dials (dialled_by tunnel) None ∷ (turn_connected conv client proxy tunnel prefix moment).owed)
+      Leaves (connecting tunnel) (commands.Dial tunnel.at.dials (dialled_by tunnel) None ∷ (shut_parked tunnel.at.parked ++ (turn_connected conv client proxy tunnel prefix moment).owed))
       (turn_connected conv client proxy tunnel prefix moment).stage
   connected_turns None tunnel prefix moment =
       dial_leaves tunnel (commands.Send Client connected_text ∷ []) _ (sends_still Client connected_text [] nothing_still) (λ index before. before) refl
@@ -432,7 +475,7 @@ module _ (conv : ℕ) (client : Visitor) where
       (sends_still (Server tunnel.at.dials) (connect_text tunnel.address) [] nothing_still) (λ index before. before) refl
 
   dial_turns : (tunnel : Tunnel) (prefix : List (Timed Event)) (answer : Reply) (moment : ℕ) →
-      Leaves (connecting tunnel) (commands.Dial tunnel.at.dials (dialled_by tunnel) None ∷ (turn_dial conv client tunnel prefix answer moment).owed)
+      Leaves (connecting tunnel) (commands.Dial tunnel.at.dials (dialled_by tunnel) None ∷ (shut_parked tunnel.at.parked ++ (turn_dial conv client tunnel prefix answer moment).owed))
       (turn_dial conv client tunnel prefix answer moment).stage
   dial_turns tunnel prefix (reply.Go given stream) moment = dial_leaves tunnel [] over nothing_still (λ index before. refl) refl
   dial_turns tunnel prefix (reply.Respond response) moment = dial_leaves tunnel [] over nothing_still (λ index before. refl) refl
@@ -483,21 +526,26 @@ module _ (conv : ℕ) (client : Visitor) where
   led_is (places.Fixed address side None) standing = tt
   led_is (places.Fixed address side (Some proxy)) standing = led_is_by standing.used.client standing.stage
 
-  -- there it owes nothing but the dial, and behind that the close of a parked side
+  -- there it owes the close of a parked side of which a byte came, the dial, and behind that the close of one that is still kept
+  abbrev closes_behind : At → Sight → List Command
+  closes_behind at seen = shut_server (server_parked (unspoilt_at at seen).parked seen)
+
   led_owes : (place : Place) (standing : Standing) (prefix : List (Timed Event)) (ask : Command) (from : Dialling) (is : IsLedTo standing.stage from) →
       (flows_at conv client place).look standing prefix ≡ Asks ask → (owed : List Command) →
-      (commands.Dial is.at.dials (dialled_for place from.flow.request) None ∷ (shut_server (server_parked is.at.parked (sight_over standing prefix)) ++ owed))
+      ((shut_stray is.at.parked (sight_over standing prefix) ++ [])
+      ++ commands.Dial is.at.dials (dialled_for place from.flow.request) None ∷ (closes_behind is.at (sight_over standing prefix) ++ owed))
       ≡ ((flows_at conv client place).so_far standing prefix ++ ask ∷ ((flows_at conv client place).behind standing prefix ++ owed))
   led_owes place standing prefix ask from is asked owed =
       let seen : Sight = sight_over standing prefix in
-      let closes : List Command = shut_server (server_parked is.at.parked seen) in
-      let nothing : so_far_of (terms_of conv client.address place) standing.stage seen ≡ [] = ap (λ s. so_far_of (terms_of conv client.address place) s seen) is.stands in
+      let closes : List Command = closes_behind is.at seen in
+      let strays : so_far_of (terms_of conv client.address place) standing.stage seen ≡ shut_stray is.at.parked seen ++ [] =
+      ap (λ s. so_far_of (terms_of conv client.address place) s seen) is.stands in
       let parts : behind_of standing.stage seen ≡ closes = ap (λ s. behind_of s seen) is.stands in
       let dial : Asks (commands.Dial is.at.dials (dialled_for place from.flow.request) None) ≡ Asks ask =
       sym (ap (λ s. look_of (terms_of conv client.address place) s seen) is.stands) ∙ asked in
       let same : commands.Dial is.at.dials (dialled_for place from.flow.request) None ≡ ask = cc in
-      ap (λ c. c ∷ (closes ++ owed)) same
-      ∙ (ap (λ l. ask ∷ (l ++ owed)) (sym parts) ∙ ap (λ l. l ++ ask ∷ (behind_of standing.stage seen ++ owed)) (sym nothing))
+      ap (λ c. (shut_stray is.at.parked seen ++ []) ++ c ∷ (closes ++ owed)) same
+      ∙ (ap (λ l. (shut_stray is.at.parked seen ++ []) ++ ask ∷ (l ++ owed)) (sym parts) ∙ ap (λ l. l ++ ask ∷ (behind_of standing.stage seen ++ owed)) (sym strays))
 
   proxy_asked : (place : Place) (standing : Standing) (prefix : List (Timed Event)) (ask : Command) (from : Dialling) (answer : Timed Reply) → IsLedTo standing.stage from →
       is_counted_at standing ≡ true → (flows_at conv client place).look standing prefix ≡ Asks ask →
@@ -507,7 +555,11 @@ module _ (conv : ℕ) (client : Visitor) where
   proxy_asked place standing prefix ask from answer is counted asked =
       let on : Turn Stage Command = asks_proxy conv client (a_flow place from) (address_of from.flow.request) from.at.dials prefix answer.moment in
       let P : List Command → Type 0 = λ l. Leaves (http place standing) l on.stage in
-      let still = parked_still (server_parked is.at.parked (sight_over standing prefix)) on.owed (sends_still (Server from.at.dials) (connect_text (address_of from.flow.request)) [] nothing_still) in
+      let seen : Sight = sight_over standing prefix in
+      let closes = parked_still (server_parked (unspoilt_at is.at seen).parked seen) on.owed (sends_still (Server from.at.dials) (connect_text (address_of from.flow.request)) [] nothing_still) in
+      let strays = both_still (shut_stray is.at.parked seen) [] (stray_still is.at.parked seen) nothing_still in
+      let still = both_still (shut_stray is.at.parked seen ++ []) (commands.Dial is.at.dials (dialled_for place from.flow.request) None ∷ (closes_behind is.at seen ++ on.owed))
+      strays (dials_still is.at.dials (dialled_for place from.flow.request) (closes_behind is.at seen ++ on.owed) closes) in
       subst P (led_owes place standing prefix ask from is asked on.owed) (record {
         ordered = still.ordered;
         asks_none = λ index before. still.none index;
@@ -576,7 +628,7 @@ module _ (conv : ℕ) (client : Visitor) where
   turns (http place standing) prefix ask is asked answer =
       http_turns (led_at place standing) place standing prefix ask answer answer.value (led_is place standing) is asked
   turns (connecting tunnel) prefix ask is asked answer =
-      asked_dial tunnel ask (turn_dial conv client tunnel prefix answer.value answer.moment).owed _ asked (dial_turns tunnel prefix answer.value answer.moment)
+      asked_dial tunnel ask (shut_parked tunnel.at.parked ++ (turn_dial conv client tunnel prefix answer.value answer.moment).owed) _ asked (dial_turns tunnel prefix answer.value answer.moment)
   turns (reaching goal link since) prefix ask is asked answer = absurd (let no : NotYet ≡ Asks ask = asked in cc)
   turns (undecided tunnel link since) prefix ask is asked answer = absurd (asks_not _ _ ask asked)
   turns (raw ends) prefix ask is asked answer = absurd (asks_not _ _ ask asked)
@@ -605,7 +657,8 @@ module _ (conv : ℕ) (client : Visitor) where
       LeavesNone is_behind stage ((stack_chain conv client).so_far stage prefix ++ found_at (stack_chain conv client) stage prefix)
   stops (http place standing) prefix is =
       let here = (flows_leave place).stops standing prefix is in record { ordered = here.ordered; asks_none = here.asks_none }
-  stops (connecting tunnel) prefix is = record { ordered = tt; asks_none = λ index before. tt }
+  stops (connecting tunnel) prefix is =
+      let still = unparked_still tunnel.at.parked in record { ordered = still.ordered; asks_none = λ index before. still.none index }
   stops (reaching goal link since) prefix is = record { ordered = tt; asks_none = λ index before. tt }
   stops (undecided tunnel link since) prefix is =
       let shut : Bool = is_shut link prefix in

@@ -28,20 +28,22 @@ use Rattle.px_exchange.specs.Flows.{response_of, with_answer, with_body, with_re
 use Rattle.px_exchange.specs.Places.{is_same_address, server_for}
 use Rattle.px_exchange.specs.Replies.{taken_at_response_body, taken_at_response_head}
 use Rattle.px_exchange.specs.Requests.{judged}
-use Rattle.px_chain.specs.Going.{is_sent, sending_on, whole_in, with_whole}
-use Rattle.px_chain.specs.Chain.{begins_going, behind_flow, dial_leads, finish_by, given_at, goes_on_by, parked_for, pass, pass_came, pass_kept, sequence, side_if, turn, turn_answer, turn_answer_head, turn_body, turn_head, turn_judged, turn_response, turn_returned, turn_taken_answer, turn_taken_body, turn_taken_given, turn_taken_head, turn_taken_returned, turn_taken_whole, begin_up, begins_up, come_down, dial_owes_by, end_by, end_up, gone, gone_by, gone_up, going_at, goes_up_by, pass_given, pass_going, sight_begun, sight_gone}
+use Rattle.px_chain.specs.Keeping.{is_silent, keeps_side, parks, unspoilt_at, unspoilt_by}
+use Rattle.px_chain.specs.Going.{goes_up, is_sent, sending_on, whole_in, with_whole}
+use Rattle.px_chain.specs.Chain.{behind_flow, keeps_came, dial_leads, finish_by, given_at, goes_on_by, parked_for, pass, pass_came, pass_kept, sequence, side_if, turn, turn_answer, turn_answer_head, turn_body, turn_head, turn_judged, turn_response, turn_returned, turn_taken_answer, turn_taken_body, turn_taken_given, turn_taken_head, turn_taken_returned, turn_taken_whole, begin_up, begins_up, come_down, dial_owes_by, end_by, end_up, gone, gone_by, gone_up, going_at, goes_up_by, pass_given, pass_going, sight_begun, sight_gone}
 use Rattle.px_chain.specs.Coming.{Came, allowed_by, came_in, goes_on_behind, streaming, streams_in}
 use Rattle.px_chain.specs.Sights.{Sight, answers_in, request_in, server_in, server_parked}
 use Rattle.px_chain.specs.Silent.{connects}
-use Rattle.px_chain.specs.Stages.{At, Parked, Sent, Stage, busy, coming_down, connection, given_body, given_head, idle, next, over, request_body, response_body, response_head, unparked, upgraded, Doing, all_sent, going_up}
+use Rattle.px_chain.specs.Stages.{At, Parked, Sent, Stage, busy, coming_down, connection, given_body, given_head, idle, next, over, request_body, response_body, response_head, upgraded, Doing, all_sent, going_up}
 use Rattle.px_chain.proofs.CountedLemmas.{IsSilent}
 use Rattle.px_chain.proofs.NotUp.{IsNotUp, IsNotUpBy}
-use Rattle.px_chain.proofs.SilentLemmas.{IsBetween, IsBeyond, ServersBelow, beyond_by, dialled, early_silent, fault_silent, parked_at, turn_leads}
+use Rattle.px_chain.proofs.TellLemmas.{IsUnanswered}
+use Rattle.px_chain.proofs.SilentLemmas.{Before, IsBetween, IsBeyond, ServersBelow, before_at, beyond_by, dialled, early_silent, fault_silent, turn_leads}
 use Rattle.px_stack.proofs.AnswerLemmas.{IsWithoutHead}
 
 -- what px_chain has of a reply, at any server: it leads to where as many servers were dialled, or more
 between_of : (terms : Terms) (stage : Stage) (seen : Sight) (answer : Timed Reply) → ServersBelow stage →
-    IsBetween (parked_at stage) (dialled stage) (dialled stage + connects answer.value) (turn terms stage seen answer).stage
+    IsBetween (before_at stage) (dialled stage) (dialled stage + connects answer.value) (turn terms stage seen answer).stage
 between_of terms stage seen answer below =
     let beyond : ℕ = dialled stage + connects answer.value in
     (turn_leads beyond terms stage seen answer below (beyond_by beyond answer.value stage (omega arith))).1
@@ -71,6 +73,11 @@ module _ (server : ℕ) where
   ApartIf false side = ⊤
   ApartIf true side = side ≢ server
 
+  -- so is one whose keeping has ended
+  pub unspoilt_apart : (silent : Bool) (parked : Option Parked) → ParkedApart parked → ParkedApart (unspoilt_by silent parked)
+  unspoilt_apart true parked apart = apart
+  unspoilt_apart false parked apart = tt
+
   apart_if : (inside : Bool) (side : ℕ) → side ≢ server → ApartIf inside side
   apart_if false side apart = tt
   apart_if true side apart = apart
@@ -96,6 +103,20 @@ module _ (server : ℕ) where
   abbrev pub SeesNothing : Stage → Sight → Type 0
   SeesNothing (busy at flow (response_head side how)) seen = side ≡ server → IsWithoutHead (answers_in flow.request seen).final
   SeesNothing stage seen = ⊤
+
+  -- so none is whole there
+  pub unanswered : (inside : Bool) (stage : Stage) (seen : Sight) → FlowApart inside stage → IsUnanswered server stage seen
+  unanswered inside (idle at) seen apart = tt
+  unanswered inside (busy at flow (request_body given most)) seen apart = tt
+  unanswered inside (busy at flow (connection sent)) seen apart = tt
+  unanswered inside (busy at flow (response_head side how)) seen apart = tt
+  unanswered inside (busy at flow (response_body side how most)) seen apart = λ same. absurd (apart (eqb-true side server same))
+  unanswered inside (busy at flow (coming_down side how)) seen apart = λ same. absurd (apart (eqb-true side server same))
+  unanswered inside (busy at flow (upgraded side)) seen apart = tt
+  unanswered inside (busy at flow given_head) seen apart = tt
+  unanswered inside (busy at flow given_body) seen apart = tt
+  unanswered inside (next at) seen apart = tt
+  unanswered inside over seen apart = tt
 
   -- this answer does not connect a server at this stage
   abbrev pub ConnectsNone : Stage → Reply → Type 0
@@ -176,33 +197,41 @@ module _ (server : ℕ) (inside : Bool) where
   behind_apart true at apart = apart
   behind_apart false at apart = tt
 
+  -- a side that is kept is that of the response
+  parks_apart : (kept : Bool) (place : Place) (at : At) (request : Request) (side : ℕ) → side ≢ server → ParkedApart server (parks kept place at request side).parked
+  parks_apart true place at request side apart = apart
+  parks_apart false place at request side apart = tt
+
   response_apart : (response : Option Response) (takes : Response → Taken Response) (goes : Taken Response → Turn Stage Command) →
       ((taken : Taken Response) → Apart (goes taken).stage) → Apart (turn_response response takes goes).stage
   response_apart None takes goes leads = tt
   response_apart (Some response) takes goes leads = leads (takes response)
 
-  finish_apart : (switches : Bool) (at : At) (flow : Flow) (how : Sent) (response : Response) (side : ℕ) (used : Used) (closed : Bool) → side ≢ server →
-      Apart (finish_by switches at flow how response side used closed).stage
-  finish_apart true at flow how response side used closed apart = apart
-  finish_apart false at flow how response side used closed apart = behind_apart (is_sent how && connection_goes_on at.flow flow.request response) (unparked at) tt
+  finish_apart : (switches : Bool) (place : Place) (at : At) (flow : Flow) (how : Sent) (response : Response) (keeps : Bool) (side : ℕ) (used : Used) (closed : Bool) → side ≢ server →
+      Apart (finish_by switches place at flow how response keeps side used closed).stage
+  finish_apart true place at flow how response keeps side used closed apart = apart
+  finish_apart false place at flow how response keeps side used closed apart =
+      let stays : Bool = is_sent how && connection_goes_on at.flow flow.request response in
+      behind_apart stays (parks (stays && keeps) place at flow.request side) (parks_apart (stays && keeps) place at flow.request side apart)
 
-  taken_whole_apart : (at : At) (flow : Flow) (side : ℕ) (how : Sent) (taken : Taken Response) (moment : ℕ) (used : Used) (closed : Bool) → side ≢ server →
-      Apart (turn_taken_whole at flow side how taken moment used closed).stage
-  taken_whole_apart at flow side how (GoesOn response) moment used closed apart = finish_apart (is_sent how && response.status == 101) at flow how response side used closed apart
-  taken_whole_apart at flow side how (Responds response) moment used closed apart = tt
-  taken_whole_apart at flow side how Kills moment used closed apart = tt
+  taken_whole_apart : (place : Place) (at : At) (flow : Flow) (side : ℕ) (how : Sent) (keeps : Bool) (taken : Taken Response) (moment : ℕ) (used : Used) (closed : Bool) → side ≢ server →
+      Apart (turn_taken_whole place at flow side how keeps taken moment used closed).stage
+  taken_whole_apart place at flow side how keeps (GoesOn response) moment used closed apart =
+      finish_apart (is_sent how && response.status == 101) place at flow how response keeps side used closed apart
+  taken_whole_apart place at flow side how keeps (Responds response) moment used closed apart = tt
+  taken_whole_apart place at flow side how keeps Kills moment used closed apart = tt
 
-  returned_apart : (at : At) (flow : Flow) (side : ℕ) (how : Sent) (item : Item ReadResponse) (seen : Sight) (answer : Timed Reply) → side ≢ server →
-      Apart (turn_returned at flow side how item seen answer).stage
-  returned_apart at flow side how missing seen answer apart = tt
-  returned_apart at flow side how (part head body) seen answer apart = tt
-  returned_apart at flow side how (complete head body trailers size) seen answer apart =
+  returned_apart : (place : Place) (at : At) (flow : Flow) (side : ℕ) (how : Sent) (item : Item ReadResponse) (seen : Sight) (answer : Timed Reply) → side ≢ server →
+      Apart (turn_returned place at flow side how item seen answer).stage
+  returned_apart place at flow side how missing seen answer apart = tt
+  returned_apart place at flow side how (part head body) seen answer apart = tt
+  returned_apart place at flow side how (complete head body trailers size) seen answer apart =
       let whole : Flow = with_returned flow body.content trailers seen.now in
       response_apart whole.response (λ response. taken_at_response_body response answer.value)
-      (λ taken. turn_taken_whole at whole side how taken answer.moment (server_in side seen) seen.closed)
-      (λ taken. taken_whole_apart at whole side how taken answer.moment (server_in side seen) seen.closed apart)
-  returned_apart at flow side how (bad_head fault) seen answer apart = tt
-  returned_apart at flow side how (bad_body fault head body) seen answer apart = tt
+      (λ taken. turn_taken_whole place at whole side how (keeps_side whole.request seen head) taken answer.moment (server_in side seen) seen.closed)
+      (λ taken. taken_whole_apart place at whole side how (keeps_side whole.request seen head) taken answer.moment (server_in side seen) seen.closed apart)
+  returned_apart place at flow side how (bad_head fault) seen answer apart = tt
+  returned_apart place at flow side how (bad_body fault head body) seen answer apart = tt
 
   taken_returned_apart : (at : At) (flow : Flow) (taken : Taken Response) (moment : ℕ) (parked : Used) (closed : Bool) → ParkedApart server at.parked →
       Apart (turn_taken_returned at flow taken moment parked closed).stage
@@ -296,12 +325,15 @@ module _ (server : ℕ) (inside : Bool) where
       IsSilent server (turn terms stage seen answer).owed
   led terms stage seen answer below beyond = (turn_leads server terms stage seen answer below beyond).0
 
+  left_apart : (at : At) (seen : Sight) → ParkedApart server at.parked → ParkedApart server (unspoilt_at at seen).parked
+  left_apart at seen apart = unspoilt_apart server (is_silent seen.server seen.shut) at.parked apart
+
   -- what a reply brings sends nothing to the server, unless it connects a server
   pub turn_silent : (terms : Terms) (stage : Stage) (seen : Sight) (answer : Timed Reply) → ServersBelow stage → Apart stage → ConnectsNone server stage answer.value →
       IsSilent server (turn terms stage seen answer).owed
   turn_silent terms (idle at) seen answer below apart none = led terms (idle at) seen answer below tt
-  turn_silent terms (busy at flow (request_body given most)) seen answer below apart none = body_silent terms.place at flow (request_in seen) seen answer apart
-  turn_silent terms (busy at flow (connection sent)) seen answer below apart none = dial_silent terms.place at flow sent answer.value answer.moment _ none
+  turn_silent terms (busy at flow (request_body given most)) seen answer below apart none = body_silent terms.place (unspoilt_at at seen) flow (request_in seen) seen answer (left_apart at seen apart)
+  turn_silent terms (busy at flow (connection sent)) seen answer below apart none = dial_silent terms.place (unspoilt_at at seen) flow sent answer.value answer.moment _ none
   turn_silent terms (busy at flow (response_head side how)) seen answer below apart none = led terms (busy at flow (response_head side how)) seen answer below tt
   turn_silent terms (busy at flow (response_body side how most)) seen answer below apart none = led terms (busy at flow (response_body side how most)) seen answer below tt
   turn_silent terms (busy at flow (coming_down side how)) seen answer below apart none = refl
@@ -313,26 +345,28 @@ module _ (server : ℕ) (inside : Bool) where
 
   pub turn_apart : (terms : Terms) (stage : Stage) (seen : Sight) (answer : Timed Reply) → Apart stage → SeesNothing server stage seen →
       (inside ≡ true → ConnectsNone server stage answer.value) → Apart (turn terms stage seen answer).stage
-  turn_apart terms (idle at) seen answer apart sees none = item_apart terms at (request_in seen) seen answer apart
-  turn_apart terms (busy at flow (request_body given most)) seen answer apart sees none = body_apart terms.place at flow (request_in seen) seen answer apart
-  turn_apart terms (busy at flow (connection sent)) seen answer apart sees none = dial_apart terms.place at flow sent answer.value none
-  turn_apart terms (busy at flow (response_head side how)) seen answer apart sees none = answer_apart terms at flow side how (answers_in flow.request seen).final seen answer sees
+  turn_apart terms (idle at) seen answer apart sees none = item_apart terms (unspoilt_at at seen) (request_in seen) seen answer (left_apart at seen apart)
+  turn_apart terms (busy at flow (request_body given most)) seen answer apart sees none = body_apart terms.place (unspoilt_at at seen) flow (request_in seen) seen answer (left_apart at seen apart)
+  turn_apart terms (busy at flow (connection sent)) seen answer apart sees none = dial_apart terms.place (unspoilt_at at seen) flow sent answer.value none
+  turn_apart terms (busy at flow (response_head side how)) seen answer apart sees none = answer_apart terms (unspoilt_at at seen) flow side how (answers_in flow.request seen).final seen answer sees
   turn_apart terms (busy at flow (response_body side how most)) seen answer apart sees none =
-      returned_apart at flow side how (answers_in flow.request seen).final seen answer apart
+      returned_apart terms.place (unspoilt_at at seen) flow side how (answers_in flow.request seen).final seen answer apart
   turn_apart terms (busy at flow (coming_down side how)) seen answer apart sees none = tt
   turn_apart terms (busy at flow (upgraded side)) seen answer apart sees none = tt
   turn_apart terms (busy at flow given_head) seen answer apart sees none =
       let asked : Flow = given_at flow seen.now in
-      let parked : Used = server_parked at.parked seen in
-      response_apart asked.response (λ response. taken_at_response_head response answer.value) (λ taken. turn_taken_given at asked taken answer.moment parked seen.closed)
-      (λ taken. given_apart at asked taken answer.moment parked seen.closed apart)
+      let left : At = unspoilt_at at seen in
+      let parked : Used = server_parked left.parked seen in
+      response_apart asked.response (λ response. taken_at_response_head response answer.value) (λ taken. turn_taken_given left asked taken answer.moment parked seen.closed)
+      (λ taken. given_apart left asked taken answer.moment parked seen.closed (left_apart at seen apart))
   turn_apart terms (busy at flow given_body) seen answer apart sees none =
       let asked : Flow = flow in
-      let parked : Used = server_parked at.parked seen in
+      let left : At = unspoilt_at at seen in
+      let parked : Used = server_parked left.parked seen in
       response_apart asked.response (λ response. taken_at_response_body response answer.value)
-      (λ taken. turn_taken_returned at asked taken answer.moment parked seen.closed)
-      (λ taken. taken_returned_apart at asked taken answer.moment parked seen.closed apart)
-  turn_apart terms (next at) seen answer apart sees none = apart
+      (λ taken. turn_taken_returned left asked taken answer.moment parked seen.closed)
+      (λ taken. taken_returned_apart left asked taken answer.moment parked seen.closed (left_apart at seen apart))
+  turn_apart terms (next at) seen answer apart sees none = left_apart at seen apart
   turn_apart terms over seen answer apart sees none = tt
 
   pub sequence_apart : (stage : Stage) → Apart stage → Apart (sequence stage)
@@ -352,12 +386,14 @@ module _ (server : ℕ) (inside : Bool) where
   up_apart None place at flow apart = tt
   up_apart (Some side) place at flow apart = apart_if server inside side apart
 
-  going_apart : (goes : Bool) (place : Place) (at : At) (flow : Flow) (most : Option ℕ) → ParkedApart server at.parked → Apart (pass_going goes place at flow most)
-  going_apart true place at flow most is = up_apart (parked_for place flow.request at.parked) place at (sending_on flow) (for_apart place flow.request at.parked is)
-  going_apart false place at flow most is = is
+  going_apart : (goes : Bool) (place : Place) (at : At) (flow : Flow) (most : Option ℕ) (seen : Sight) → ParkedApart server at.parked → Apart (pass_going goes place at flow most seen)
+  going_apart true place at flow most seen is =
+      let left : At = unspoilt_at at seen in
+      up_apart (parked_for place flow.request left.parked) place at (sending_on flow) (for_apart place flow.request left.parked (left_apart at seen is))
+  going_apart false place at flow most seen is = is
 
   begins_apart : (place : Place) (at : At) (flow : Flow) (doing : Doing) (seen : Sight) → Apart (busy at flow doing) → Apart (begins_up place at flow doing seen)
-  begins_apart place at flow (request_body None most) seen is = going_apart (begins_going place at flow most seen) place at flow most is
+  begins_apart place at flow (request_body None most) seen is = going_apart (goes_up most seen) place at flow most seen is
   begins_apart place at flow (request_body (Some response) most) seen is = apart_given at flow response most (request_in seen) seen.now is
   begins_apart place at flow (connection sent) seen is = is
   begins_apart place at flow (response_head side how) seen is = is
@@ -396,7 +432,9 @@ module _ (server : ℕ) (inside : Bool) where
   came_apart : (place : Place) (at : At) (flow : Flow) (side : ℕ) (how : Sent) (seen : Sight) (came : Option Came) → side ≢ server →
       Apart (pass_came place at flow side how seen came).stage
   came_apart place at flow side how seen None apart = apart
-  came_apart place at flow side how seen (Some came) apart = behind_apart (is_sent how && goes_on_behind at.flow flow.request came) (unparked at) tt
+  came_apart place at flow side how seen (Some came) apart =
+      let kept : Bool = keeps_came at flow how seen came in
+      behind_apart (is_sent how && goes_on_behind at.flow flow.request came) (parks kept place at flow.request side) (parks_apart kept place at flow.request side apart)
 
   kept_apart : (streams : Bool) (place : Place) (at : At) (flow : Flow) (side : ℕ) (how : Sent) (most : Option ℕ) (seen : Sight) → side ≢ server →
       Apart (pass_kept streams place at flow side how most seen).stage
@@ -436,7 +474,7 @@ module _ (server : ℕ) where
   FlowUntold text over = ⊤
 
   module _ (text : List ℕ) where
-    untold_further : (was : Option Parked) (least most : ℕ) (stage : Stage) → IsBetween was least most stage → Untold text least → FlowUntold text stage
+    untold_further : (was : Before) (least most : ℕ) (stage : Stage) → IsBetween was least most stage → Untold text least → FlowUntold text stage
     untold_further was least most (idle at) between untold = let few = between.0.0 in λ beyond. untold (omega arith)
     untold_further was least most (busy at flow doing) between untold = let few = between.0.0 in λ beyond. untold (omega arith)
     untold_further was least most (next at) between untold = let few = between.0.0 in λ beyond. untold (omega arith)
@@ -444,8 +482,8 @@ module _ (server : ℕ) where
 
     turn_untold : (terms : Terms) (stage : Stage) (seen : Sight) (answer : Timed Reply) → ServersBelow stage → FlowUntold text stage →
         FlowUntold text (turn terms stage seen answer).stage
-    turn_untold terms (idle at) seen answer below untold = untold_further at.parked at.dials _ _ (between_of terms (idle at) seen answer below) untold
-    turn_untold terms (busy at flow doing) seen answer below untold = untold_further at.parked at.dials _ _ (between_of terms (busy at flow doing) seen answer below) untold
+    turn_untold terms (idle at) seen answer below untold = untold_further (before_at (idle at)) at.dials _ _ (between_of terms (idle at) seen answer below) untold
+    turn_untold terms (busy at flow doing) seen answer below untold = untold_further (before_at (busy at flow doing)) at.dials _ _ (between_of terms (busy at flow doing) seen answer below) untold
     turn_untold terms (next at) seen answer below untold = untold
     turn_untold terms over seen answer below untold = tt
 
@@ -470,12 +508,12 @@ module _ (server : ℕ) where
     up_untold None place at flow is = is
     up_untold (Some side) place at flow is = is
 
-    going_untold : (goes : Bool) (place : Place) (at : At) (flow : Flow) (most : Option ℕ) → Untold text at.dials → FlowUntold text (pass_going goes place at flow most)
-    going_untold true place at flow most is = up_untold (parked_for place flow.request at.parked) place at (sending_on flow) is
-    going_untold false place at flow most is = is
+    going_untold : (goes : Bool) (place : Place) (at : At) (flow : Flow) (most : Option ℕ) (seen : Sight) → Untold text at.dials → FlowUntold text (pass_going goes place at flow most seen)
+    going_untold true place at flow most seen is = up_untold (parked_for place flow.request (unspoilt_at at seen).parked) place at (sending_on flow) is
+    going_untold false place at flow most seen is = is
 
     begins_untold : (place : Place) (at : At) (flow : Flow) (doing : Doing) (seen : Sight) → Untold text at.dials → FlowUntold text (begins_up place at flow doing seen)
-    begins_untold place at flow (request_body None most) seen is = going_untold (begins_going place at flow most seen) place at flow most is
+    begins_untold place at flow (request_body None most) seen is = going_untold (goes_up most seen) place at flow most seen is
     begins_untold place at flow (request_body (Some response) most) seen is = untold_given at flow response most (request_in seen) seen.now is
     begins_untold place at flow (connection sent) seen is = is
     begins_untold place at flow (response_head side how) seen is = is
@@ -501,14 +539,16 @@ module _ (server : ℕ) where
     stage_ends_untold terms (next at) seen is = is
     stage_ends_untold terms over seen is = is
 
-    behind_untold : (stays : Bool) (at : At) → Untold text at.dials → FlowUntold text (behind_flow stays (unparked at))
-    behind_untold true at untold = untold
-    behind_untold false at untold = tt
+    behind_untold : (stays kept : Bool) (place : Place) (at : At) (request : Request) (side : ℕ) → Untold text at.dials → FlowUntold text (behind_flow stays (parks kept place at request side))
+    behind_untold true true place at request side untold = untold
+    behind_untold true false place at request side untold = untold
+    behind_untold false kept place at request side untold = tt
 
     came_untold : (place : Place) (at : At) (flow : Flow) (side : ℕ) (how : Sent) (seen : Sight) (came : Option Came) → Untold text at.dials →
         FlowUntold text (pass_came place at flow side how seen came).stage
     came_untold place at flow side how seen None untold = untold
-    came_untold place at flow side how seen (Some came) untold = behind_untold (is_sent how && goes_on_behind at.flow flow.request came) at untold
+    came_untold place at flow side how seen (Some came) untold =
+        behind_untold (is_sent how && goes_on_behind at.flow flow.request came) (keeps_came at flow how seen came) place at flow.request side untold
 
     kept_untold : (streams : Bool) (place : Place) (at : At) (flow : Flow) (side : ℕ) (how : Sent) (most : Option ℕ) (seen : Sight) → Untold text at.dials →
         FlowUntold text (pass_kept streams place at flow side how most seen).stage

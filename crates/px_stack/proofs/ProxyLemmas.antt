@@ -31,6 +31,7 @@ use Rattle.px_exchange.specs.Requests.{is_head}
 use Rattle.px_exchange.specs.Texts.{connected_text, onward_text}
 use Rattle.px_parts.specs.Texts.{request_so_far}
 use Rattle.px_chain.specs.Chain.{Connect, IsOnward, begin_up, connect_in, is_sequence, pass as pass_of, sequence, turn as turn_of}
+use Rattle.px_chain.specs.Keeping.{unspoilt_at}
 use Rattle.px_chain.specs.Sent.{IsSentOnce, going_on, nothing, one_request}
 use Rattle.px_chain.specs.Sights.{Sight, Standing, bytes_over, request_in, sight_over}
 use Rattle.px_chain.specs.Stages.{At, all_sent, busy, coming_down, connection, given_body, given_head, idle, next, request_body, response_body, response_head, side_of, unparked, upgraded, Sent, going_up}
@@ -39,22 +40,22 @@ use Rattle.px_event.specs.Sides.{piece_of}
 use Rattle.px_chain.specs.Streams.{Since, bytes_of, client_closed, from_here, now_over}
 use Rattle.px_chain.proofs.CountedLemmas.{IsSilent, silent_both, silent_found}
 use Rattle.px_chain.proofs.SentLemmas.{SaidThere, said_heard, said_passed, said_there, said_turned}
-use Rattle.px_chain.proofs.SilentLemmas.{AreBelow, behind_silent, fault_silent, looks_silent, pass_silent, same_parked, so_far_silent}
-use Rattle.px_chain.proofs.TellLemmas.{SaidAt, in_part as told_in_part, not_yet, was_said}
+use Rattle.px_chain.proofs.SilentLemmas.{AreBelow, behind_silent, fault_silent, looks_silent, pass_silent, so_far_silent}
+use Rattle.px_chain.proofs.TellLemmas.{SaidAt, in_part as told_in_part, is_first, not_yet, was_said}
 use Rattle.px_tunnel.specs.Upstream.{Granting, awaited, connect_text, granted, refused}
 use Rattle.px_relay.specs.Stages.{Stage as Frames}
 use Rattle.px_stream.specs.Anywhere.{reached_owes}
-use Rattle.px_stack.specs.Chain.{answer_of, asks_proxy, begins, begun, closed_before, closed_of, closes_all, finished_flow, flows_at, follows, goes_by, hands_by, has_answered, is_empty, is_shut, led_by, opening_text, or_stays, pass_http, pass_reached, pass_socket, proxy_at, socket_sight, socket_terms, socket_turn, stack_chain, text_behind, text_down, text_of, text_up, tunnel_for, tunnel_found, turn_connected, turn_dial, turn_flows, turn_http, upgrades, used_proxy, way_by, way_to, pass_flows, connected_on}
+use Rattle.px_stack.specs.Chain.{answer_of, asks_proxy, begins, begun, closed_before, closed_of, closes_all, finished_flow, flows_at, follows, follows_to, goes_by, hands_by, hands_over, has_answered, is_empty, is_shut, led_by, opening_text, or_stays, owed_at_handing, pass_http, pass_reached, pass_socket, proxy_at, socket_sight, socket_terms, socket_turn, stack_chain, text_behind, text_down, text_of, text_up, tunnel_for, tunnel_found, turn_connected, turn_dial, turn_flows, turn_http, upgrades, used_proxy, way_by, way_to, pass_flows, connected_on}
 use Rattle.px_stack.specs.Decides.{Decision, decided, is_http, is_raw, still}
 use Rattle.px_stack.specs.Frames.{Says, pass_says, turn_says}
-use Rattle.px_stack.specs.Laws.{never_connects}
+use Rattle.px_stack.specs.Laws.{handing_owes, never_connects}
 use Rattle.px_stack.specs.Modes.{mode_due}
 use Rattle.px_stack.specs.Proxies.{DecidesNothing, HasNotAnswered, IsOneRequest, for_tunnel, in_full, in_part, is_none, said_of}
 use Rattle.px_stack.specs.Sockets.{is_websocket}
 use Rattle.px_stack.specs.Stages.{Dialling, Ends as TunnelEnds, Goal, Link, Stage, Tunnel, Visitor, a_flow, a_tunnel, connecting, http, over, raw, reaching, socket, undecided}
 use Rattle.px_stack.proofs.AnswerLemmas.{answers_without, bytes_decide, grants_not, nothing_before, nothing_within, said_in, said_more, text_decides}
-use Rattle.px_stack.proofs.ProxyFlowLemmas.{ConnectsNone, FlowApart, FlowUntold, SeesNothing, Untold, not_up, onward_untold, pass_apart, passed_untold, send_silent, sequence_apart, stage_begins_apart, turn_apart, turn_silent}
-use Rattle.px_stack.proofs.SilentLemmas.{AllBelow, client_silent, finished_silent, closes_silent, found_silent, frames_silent, said_silent, stack_counts}
+use Rattle.px_stack.proofs.ProxyFlowLemmas.{ConnectsNone, FlowApart, FlowUntold, SeesNothing, Untold, not_up, onward_untold, pass_apart, passed_untold, send_silent, sequence_apart, stage_begins_apart, turn_apart, turn_silent, unanswered}
+use Rattle.px_stack.proofs.SilentLemmas.{AllBelow, client_silent, finished_silent, closes_silent, found_silent, frames_silent, parked_silent, said_silent, stack_counts, stray_silent}
 
 -- the flows of mode upstream begin with no side parked, and none dialled
 abbrev is_in_sequence : IsOnward sequence
@@ -240,7 +241,7 @@ module _ (server : ℕ) where
 
       hands_stay : (inside : Bool) (place : Place) (standing : Standing) (stage : flows.Stage) (seen : Sight) → Stays prefix text (http place standing) → FlowApart server inside stage → HandsTold text stage →
           Stays prefix text (or_stays (http place standing) (hands_by place standing stage seen))
-      hands_stay inside place standing (idle at) seen is apart told = connect_stays place standing standing.used.client at (request_in seen) is told
+      hands_stay inside place standing (idle at) seen is apart told = connect_stays place standing standing.used.client (unspoilt_at at seen) (request_in seen) is told
       hands_stay inside place standing (busy at flow (request_body given most)) seen is apart told = is
       hands_stay inside place standing (busy at flow (connection sent)) seen is apart told = is
       hands_stay inside place standing (busy at flow (response_head side how)) seen is apart told = is
@@ -294,6 +295,14 @@ module _ (server : ℕ) where
     abbrev chain : Chain Stage Event Reply Command
     chain = stack_chain conv client
 
+    -- what HTTP owed while it waited, where it hands over
+    abbrev handed : Place → Standing → List (Timed Event) → List Command
+    handed place standing prefix = owed_at_handing (hands_over place standing prefix) ((flows_at conv client place).so_far standing prefix)
+
+    handed_silent : (place : Place) (standing : Standing) (prefix : List (Timed Event)) → IsSilent server (handed place standing prefix)
+    handed_silent place standing prefix =
+        handing_owes (IsSilent server) refl (stray_silent server) (terms_of conv client.address place) standing standing.stage (sight_over standing prefix)
+
     -- ---- passing
 
     module _ (before : List Command) where
@@ -332,12 +341,13 @@ module _ (server : ℕ) where
           let apart : FlowApart server false (sequence to) = sequence_apart server false to (pass_apart server false terms standing.stage seen is.apart.1) in
           let told : List ℕ = text ++ sent_in on.owed in
           let P : List ℕ → Type 0 = λ l. IsSaid proxy on.stage prefix l in
-          let said : IsSaid proxy on.stage prefix told = subst P (sent_both before on.owed) (said_passed sequence is_in_sequence terms None 0 server standing prefix before is.told) in
+          let said : IsSaid proxy on.stage prefix told = subst P (sent_both before on.owed) (said_passed sequence is_in_sequence terms None 0 server standing prefix before (unanswered server false standing.stage seen is.apart.1) is.told) in
           let there : Stays prefix told (http place on.stage) = record { apart = (tt, apart); told = said } in
           let hands = hands_upstream prefix told proxy (sequence to) (sight_over on.stage prefix) said.said in
           let next = pass_http conv client place on.stage prefix in
-          goes_on prefix text on.owed (begun conv client next prefix)
-          (begun_goes next prefix told (hands_stay prefix told false place on.stage (sequence to) (sight_over on.stage prefix) there apart hands))
+          goes_on prefix text on.owed (follows_to conv client place on.stage prefix)
+          (goes_behind prefix told (handed place on.stage prefix) (begun conv client next prefix) (handed_silent place on.stage prefix)
+          (begun_goes next prefix told (hands_stay prefix told false place on.stage (sequence to) (sight_over on.stage prefix) there apart hands)))
 
       -- and those inside a tunnel
       inside_passes : (address : Address) (side : Option ℕ) (inside : Option Address) (standing : Standing) (prefix : List (Timed Event)) →
@@ -355,8 +365,9 @@ module _ (server : ℕ) where
           let begun_up : flows.Stage = begin_up terms standing.stage seen in
           let silent = pass_silent server terms standing.stage seen (not_up server begun_up (stage_begins_apart server true terms standing.stage seen is.apart.1)) in
           let next = pass_http conv client place on.stage prefix in
-          goes_behind prefix text on.owed (begun conv client next prefix) silent
-          (begun_goes next prefix text (hands_stay prefix text true place on.stage (sequence to) (sight_over on.stage prefix) there apart hands))
+          goes_behind prefix text on.owed (follows_to conv client place on.stage prefix) silent
+          (goes_behind prefix text (handed place on.stage prefix) (begun conv client next prefix) (handed_silent place on.stage prefix)
+          (begun_goes next prefix text (hands_stay prefix text true place on.stage (sequence to) (sight_over on.stage prefix) there apart hands)))
 
       http_passes : (place : Place) (standing : Standing) (prefix : List (Timed Event)) → Stays prefix text (http place standing) → Goes prefix text (pass_flows conv client place standing prefix)
       http_passes places.Regular standing prefix is = absurd is.apart.0
@@ -460,7 +471,7 @@ module _ (server : ℕ) where
 
     parts : (stage : Stage) (prefix : List (Timed Event)) → IsSilent server ((stack_chain conv client).behind stage prefix)
     parts (http place standing) prefix = behind_silent server standing.stage (sight_over standing prefix)
-    parts (connecting tunnel) prefix = refl
+    parts (connecting tunnel) prefix = parked_silent server tunnel.at.parked
     parts (reaching goal link since) prefix = refl
     parts (undecided tunnel link since) prefix = refl
     parts (raw ends) prefix = refl
@@ -570,7 +581,7 @@ module _ (server : ℕ) where
             let apart : FlowApart server false turned.stage = turn_apart server false terms standing.stage seen answer is.apart.1 sees (λ same. absurd (let e : false ≡ true = same in cc)) in
             record {
               apart = (tt, sequence_apart server false turned.stage apart);
-              told = said_turned sequence is_in_sequence terms None 0 server standing prefix before ask answer asked is.told;
+              told = said_turned sequence is_in_sequence terms None 0 server standing prefix before ask answer asked (unanswered server false standing.stage seen is.apart.1) is.told;
             }
 
         -- ---- a request inside a tunnel
@@ -766,6 +777,6 @@ pub mode_one_request : (proxy : Address) (peer : Option Address) (key : List ℕ
 mode_one_request proxy peer key conv server moves none =
     walk_one server conv (record { address = peer; key = key }) (said_of server moves) none (replies_in 1 moves) never [] (begins (modes.Upstream proxy)) [] (events_in 1 moves)
     (record {
-      stays = record { apart = (tt, tt); told = record { below = tt; since = (omega arith, same_parked refl); untold = tt; said = not_yet refl tt } };
+      stays = record { apart = (tt, tt); told = record { below = tt; since = (omega arith, is_first refl); untold = tt; said = not_yet refl tt } };
       below = tt;
     }) (said_are server 1 moves)

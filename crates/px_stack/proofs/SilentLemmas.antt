@@ -22,22 +22,25 @@ use Rattle.px_exchange.specs.declared.place.Place.TheVariants as places
 use Rattle.px_exchange.specs.Endings.{shut_client, shut_server}
 use Rattle.px_exchange.specs.Places.{address_of, terms_of}
 use Rattle.px_chain.specs.Chain.{Connect, connect_in, is_sequence, sequence}
+use Rattle.px_chain.specs.Keeping.{shut_by_byte, shut_stray, unspoilt_at}
 use Rattle.px_chain.specs.Sights.{Sight, Standing, request_in, sight_over}
 use Rattle.px_chain.specs.Silent.{NoAnswer, connects}
-use Rattle.px_chain.specs.Stages.{At, busy, coming_down, connection, given_body, given_head, idle, next, request_body, response_body, response_head, upgraded, Sent, all_sent, going_up}
+use Rattle.px_chain.specs.Stages.{At, Parked, busy, coming_down, connection, given_body, given_head, idle, next, request_body, response_body, response_head, upgraded, Sent, all_sent, going_up}
 use Rattle.px_chain.specs.Stages as flows
 use Rattle.px_chain.specs.Streams.{Since, client_closed, from_here, now_over}
 use Rattle.px_chain.proofs.CountedLemmas.{Counts, CountsServers, IsSilent, counted_silent, silent_both}
-use Rattle.px_chain.proofs.SilentLemmas.{AreBelow, ServersBelow, dialled, dialled_at, fault_silent, http_counts}
+use Rattle.px_chain.proofs.BelowLemmas.{dialled_at, http_counts}
+use Rattle.px_chain.proofs.SilentLemmas.{AreBelow, ServersBelow, dialled, fault_silent}
 use Rattle.px_tunnel.specs.Upstream.{Granting, awaited, connect_text, granted, refused}
 use Rattle.px_relay.specs.Chain as relay
 use Rattle.px_relay.specs.Sending.{Terms}
 use Rattle.px_relay.specs.Stages.{Stage as Frames, holding, over as ended, relaying}
 use Rattle.px_stream.specs.Anywhere.{reached_owes}
-use Rattle.px_stack.specs.Chain.{answer_of, asks_proxy, begins, begun, closed_before, closed_of, closes_all, finished_flow, flows_at, follows, goes_by, hands_by, has_answered, is_empty, is_shut, led_at, led_by, opening_text, or_stays, pass_http, pass_reached, pass_socket, socket_sight, socket_terms, socket_turn, stack_chain, text_behind, text_down, text_up, tunnel_for, tunnel_found, turn_connected, turn_dial, turn_flows, turn_http, upgrades, used_proxy, way_by, way_to, pass_flows, connected_on}
+use Rattle.px_stack.specs.Chain.{answer_of, asks_proxy, begins, begun, closed_before, closed_of, closes_all, finished_flow, flows_at, follows, goes_by, hands_by, hands_over, has_answered, is_empty, is_shut, led_at, led_by, opening_text, or_stays, owed_at_handing, shut_parked, pass_http, pass_reached, pass_socket, socket_sight, socket_terms, socket_turn, stack_chain, text_behind, text_down, text_up, tunnel_for, tunnel_found, turn_connected, turn_dial, turn_flows, turn_http, upgrades, used_proxy, way_by, way_to, pass_flows, connected_on}
 use Rattle.px_stack.specs.Decides.{Decision, decided, is_http, is_raw, still}
 use Rattle.px_stack.specs.Frames.{AreSaid, Says, pass_says, turn_says}
 use Rattle.px_stack.specs.Modes.{mode_due}
+use Rattle.px_stack.specs.Laws.{handing_owes}
 use Rattle.px_stack.specs.Sockets.{is_websocket}
 use Rattle.px_stack.specs.Stages.{Dialling, Ends as TunnelEnds, Goal, Link, Stage, Tunnel, Visitor, a_flow, a_tunnel, connecting, http, over, raw, reaching, socket, undecided}
 
@@ -78,6 +81,19 @@ module _ (server : ℕ) where
   server_silent : (number : ℕ) (shut : Bool) → IsSilent server (shut_server (ByServer number shut))
   server_silent number true = refl
   server_silent number false = close_silent (Server number) (number == server)
+
+  -- of a parked side, at a byte of it, and where a CONNECT came
+  pub stray_silent : (parked : Option Parked) (seen : Sight) → IsSilent server (shut_stray parked seen)
+  stray_silent None seen = refl
+  stray_silent (Some parked) seen = by seen.server
+    where
+      by : (bytes : List ℕ) → IsSilent server (shut_by_byte parked.server bytes)
+      by [] = refl
+      by (first ∷ more) = close_silent (Server parked.server) (parked.server == server)
+
+  pub parked_silent : (parked : Option Parked) → IsSilent server (shut_parked parked)
+  parked_silent None = refl
+  parked_silent (Some parked) = close_silent (Server parked.server) (parked.server == server)
 
   pub client_silent : (closed : Bool) → IsSilent server (shut_client closed)
   client_silent true = refl
@@ -143,10 +159,10 @@ module _ (conv : ℕ) (client : Visitor) where
   abbrev Few : ℕ → Stage → Type 0
   Few most stage = (dials_at stage ≤ most) × AllBelow stage
 
-  tunnel_few : (place : Place) (standing : Standing) (used : ℕ) (at : At) (connect : Option Connect) → standing.stage ≡ idle at → AreBelow standing →
-      Few (dialled_at standing) (or_stays (http place standing) (tunnel_for place used at connect))
-  tunnel_few place standing used at None is below = (omega arith, below)
-  tunnel_few place standing used at (Some connect) is below = let same : dialled standing.stage ≡ at.dials = ap dialled is in (omega arith, tt)
+  tunnel_few : (place : Place) (standing : Standing) (used : ℕ) (at : At) (seen : Sight) (connect : Option Connect) → standing.stage ≡ idle at → AreBelow standing →
+      Few (dialled_at standing) (or_stays (http place standing) (tunnel_for place used (unspoilt_at at seen) connect))
+  tunnel_few place standing used at seen None is below = (omega arith, below)
+  tunnel_few place standing used at seen (Some connect) is below = let same : dialled standing.stage ≡ at.dials = ap dialled is in (omega arith, tt)
 
   upgrades_few : (most : ℕ) (is : Bool) (flow : Flow) (moment : ℕ) (ends : TunnelEnds) → ends.link.server + 1 ≤ most → Few most (upgrades is flow moment ends)
   upgrades_few most true flow moment ends less = (less, tt)
@@ -154,7 +170,7 @@ module _ (conv : ℕ) (client : Visitor) where
 
   hands_few : (place : Place) (standing : Standing) (stage : flows.Stage) (seen : Sight) → standing.stage ≡ stage → AreBelow standing → ServersBelow stage →
       Few (dialled_at standing) (or_stays (http place standing) (hands_by place standing stage seen))
-  hands_few place standing (idle at) seen is below here = tunnel_few place standing standing.used.client at (connect_in place (request_in seen)) is below
+  hands_few place standing (idle at) seen is below here = tunnel_few place standing standing.used.client at seen (connect_in place (request_in seen)) is below
   hands_few place standing (busy at flow (request_body given most)) seen is below here = (omega arith, below)
   hands_few place standing (busy at flow (connection sent)) seen is below here = (omega arith, below)
   hands_few place standing (busy at flow (response_head side how)) seen is below here = (omega arith, below)
@@ -236,8 +252,13 @@ module _ (conv : ℕ) (client : Visitor) where
       let fewer = counts.few in
       let below = few.0 in
       let last = further.few in
+      let handed : List Command = owed_at_handing (hands_over place on.stage prefix) ((flows_at conv client place).so_far on.stage prefix) in
+      let still : (server : ℕ) → IsSilent server handed =
+      λ server. handing_owes (λ owed. IsSilent server owed) refl (stray_silent server) (terms_of conv client.address place) on.stage on.stage.stage (sight_over on.stage prefix) in
       record {
-        silent = λ server beyond. silent_both server on.owed (begun conv client to prefix).owed (counts.silent server beyond) (further.silent server (omega arith));
+        silent = λ server beyond.
+            silent_both server on.owed (handed ++ (begun conv client to prefix).owed) (counts.silent server beyond)
+            (silent_both server handed (begun conv client to prefix).owed (still server) (further.silent server (omega arith)));
         few = omega arith;
         stays = further.stays;
       }
@@ -308,7 +329,7 @@ module _ (conv : ℕ) (client : Visitor) where
 
   parts : (stage : Stage) (prefix : List (Timed Event)) → AllBelow stage → (server : ℕ) → dials_at stage ≤ server → IsSilent server ((stack_chain conv client).behind stage prefix)
   parts (http place standing) prefix is server beyond = (flows_count place).behind standing prefix is server beyond
-  parts (connecting tunnel) prefix is server beyond = refl
+  parts (connecting tunnel) prefix is server beyond = parked_silent server tunnel.at.parked
   parts (reaching goal link since) prefix is server beyond = refl
   parts (undecided tunnel link since) prefix is server beyond = refl
   parts (raw ends) prefix is server beyond = refl

@@ -76,7 +76,7 @@ pub stands_made : (made : Stack) (mode : Mode) (flows : Box HttpConv) → IsMade
 stands_made made mode flows is =
     let P : Stage → Type 0 = λ start. StandsAt (chain_of made) start (IsAt made) made [] [] in
     let there : IsAt made made (begins mode) [] =
-    record { conv = refl; client = refl; mask_key = refl; child = record { flows = flows; is = is.child; there = flows_there made mode flows is; in_time = tt } } in
+    record { conv = refl; client = refl; mask_key = refl; child = record { flows = flows; is = is.child; there = flows_there made mode flows is; in_time = λ closed. closed } } in
     subst P (sym (starts_there made mode flows is)) (begins_at (chain_of made) (settles_there made) (begins mode) (IsAt made) made there (λ view. refl))
 
 pub new_made : (made : Stack) (mode : Mode) (flows : Box HttpConv) (peer : Address) → made.child ≡ children.Http flows → made.client ≡ Some peer →

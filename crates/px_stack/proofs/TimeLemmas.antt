@@ -1,47 +1,45 @@
--- A side that is parked was connected before the client closed: that stays so, over one event more, where a flow passes and where a reply leads.
+-- Behind the client's close no server is heard: that the client closed since the open side was connected stays so, over one event more, where a
+-- flow passes and where a reply leads, unless it ends there.
 use Rattle.std.proofs.Common.{◌≡◌, ◌≤◌, ℕ, Bool, true, false, List, [], ◌∷◌, ◌++◌, drop, length, Option, Some, None, refl, ap, sym, ◌∙◌, subst}
-use Rattle.std.specs.Prelude.{◌==◌, ◌&&◌, ◌||◌}
+use Rattle.std.specs.Prelude.{◌||◌, zero, suc}
+use Rattle.std.proofs.Math.Seq.{drop-length}
 use Rattle.std.proofs.lemmas.List.{drop-append-le}
 use Rattle.px_message.specs.declared.flow.Flow.{Flow}
-use Rattle.px_message.specs.declared.request.Request.{Request}
-use Rattle.px_message.specs.declared.response.Response.{Response}
 use Rattle.px_event.specs.declared.command.Command.{Command}
 use Rattle.px_event.specs.declared.event.Event.{Event}
 use Rattle.px_event.specs.declared.reply.Reply.{Reply}
 use Rattle.px_event.specs.declared.reply.Reply.TheVariants as reply
-use Rattle.px_event.specs.declared.side.Side.TheVariants.{Client}
-use Rattle.px_event.specs.Chain.{Timed, Turn}
+use Rattle.px_event.specs.declared.side.Side.TheVariants.{Client, Server}
+use Rattle.px_event.specs.Chain.{Timed, Look, NotYet, Asks, Ends}
 use Rattle.px_event.specs.Sides.{closes}
-use Rattle.px_read.specs.Items.{Item, missing, part, complete, bad_head, bad_body}
+use Rattle.px_message.specs.declared.fault.Fault.{Fault}
+use Rattle.px_read.specs.Items.{Item, answer_list, missing, part, complete, bad_head, bad_body}
 use Rattle.px_read.specs.declared.head.RequestHead.{RequestHead as ReadRequest}
-use Rattle.px_read.specs.declared.head.ResponseHead.{ResponseHead as ReadResponse}
-use Rattle.px_exchange.specs.declared.asked.Judged.{Judged}
-use Rattle.px_exchange.specs.declared.asked.Judged.TheVariants.{Refused, Accepted, Connects}
-use Rattle.px_exchange.specs.declared.ending.Used.{Used}
 use Rattle.px_exchange.specs.declared.place.Place.{Place}
-use Rattle.px_exchange.specs.declared.taken.Taken.{Taken}
-use Rattle.px_exchange.specs.declared.taken.Taken.TheVariants.{GoesOn, Responds, Kills}
 use Rattle.px_exchange.specs.declared.terms.Terms.{Terms}
-use Rattle.px_exchange.specs.Endings.{connection_goes_on}
-use Rattle.px_exchange.specs.Flows.{response_of, with_answer, with_body, with_returned}
-use Rattle.px_exchange.specs.Replies.{taken_at_request_body, taken_at_request_head, taken_at_response_body, taken_at_response_head}
-use Rattle.px_exchange.specs.Requests.{expects, flow_of, judged}
-use Rattle.px_chain.specs.Going.{allowed_up_by, is_sent, sending_on, whole_in}
+use Rattle.px_exchange.specs.Finds.{look_answer, or_leaves}
+use Rattle.px_exchange.specs.Endings.{ends_by_fault}
+use Rattle.px_exchange.specs.Requests.{is_head}
 use Rattle.px_chain.specs.Behind.{dials_at}
-use Rattle.px_chain.specs.Chain.{begins_going, behind_flow, dial_leads, finish_by, given_at, goes_on_by, opened_by, parked_for, pass, pass_came, pass_kept, passed, sequence, stands, turn, turn_answer, turn_answer_head, turn_body, turn_given_head, turn_head, turn_judged, turn_response, turn_returned, turn_taken_answer, turn_taken_body, turn_taken_given, turn_taken_head, turn_taken_returned, turn_taken_whole, turn_whole_answer, begin_up, begins_up, come_down, end_by, end_up, gone_by, gone_up, going_at, goes_up_by, pass_given, pass_going, sight_begun, sight_gone}
-use Rattle.px_chain.specs.Coming.{Came, allowed_by, came_in, goes_on_behind, streaming, streams_in}
-use Rattle.px_chain.specs.Sights.{Sight, Standing, answers_in, request_in, server_in, server_parked, sight_over}
-use Rattle.px_chain.specs.Stages.{At, Parked, Sent, Stage, busy, coming_down, connection, given_body, given_head, idle, next, over, place_of, request_body, response_body, response_head, unparked, upgraded, Doing}
-use Rattle.px_chain.specs.Streams.{client_closed}
+use Rattle.px_chain.specs.Chain.{bad_or, come_down, dial_leads, end_by, find, gone_by, going_at, is_sequence, leaving, look, look_up, opened_by, passed, past_gone, sequence, sight_come, stands, turn}
+use Rattle.px_chain.specs.Going.{whole_in, with_whole}
+use Rattle.px_chain.specs.Keeping.{unspoilt, unspoilt_at}
+use Rattle.px_chain.specs.Sights.{Sight, Standing, UsedBytes, answers_in, request_in, server_in, sight_over}
+use Rattle.px_chain.specs.Stages.{At, Parked, Sent, Stage, all_sent, busy, coming_down, connection, given_body, given_head, going_up, idle, next, over, request_body, response_body, response_head, upgraded}
+use Rattle.px_chain.specs.Streams.{Since, bytes_of, client_closed, is_closed}
 use Rattle.px_chain.proofs.FrontLaws.{closed_more, closed_stays, open_behind}
-use Rattle.px_chain.proofs.SilentLemmas.{IsParkedFrom, none_parked, same_parked}
+use Rattle.px_chain.proofs.SightLaws.{sight_passed}
 use Rattle.px_stream.specs.Anywhere.{OpensInTime}
-use Rattle.px_stack.specs.Stands.{InTime}
+use Rattle.px_stack.specs.Stands.{InTime, StaysInTime}
 
 -- while the client has not closed there is nothing to show
-pub open_in_time : (parked : Option Parked) (opened : ℕ) (prefix : List (Timed Event)) → client_closed prefix ≡ false → OpensInTime parked opened prefix
-open_in_time None opened prefix open_still = tt
-open_in_time (Some parked) opened prefix open_still = λ closed. absurd (let no : true ≡ false = sym closed ∙ open_still in cc)
+pub open_in_time : (standing : Standing) (prefix : List (Timed Event)) → client_closed prefix ≡ false → InTime standing prefix
+open_in_time standing prefix open_still = λ closed. absurd (let no : true ≡ false = sym closed ∙ open_still in cc)
+
+-- what is asked of a parked side
+pub opens_in_time : (parked : Option Parked) (standing : Standing) (prefix : List (Timed Event)) → InTime standing prefix → OpensInTime parked standing.opened prefix
+opens_in_time None standing prefix in_time = tt
+opens_in_time (Some parked) standing prefix in_time = in_time
 
 -- ---- one event more
 
@@ -53,255 +51,145 @@ later_by behind prefix e false is closed in_time open_there =
     let closes_now : closes Client e.value ≡ true = sym (closed_more Client prefix e is ∙ ap (λ b. b || closes Client e.value) is) ∙ closed in
     closed_more Client behind e (open_there is) ∙ (ap (λ b. b || closes Client e.value) (open_there is) ∙ closes_now)
 
-pub in_time_more : (parked : Option Parked) (opened : ℕ) (prefix : List (Timed Event)) (e : Timed Event) → opened ≤ length prefix → OpensInTime parked opened prefix →
-    OpensInTime parked opened (prefix ++ e ∷ [])
-in_time_more None opened prefix e within in_time = tt
-in_time_more (Some parked) opened prefix e within in_time = λ closed.
-    ap client_closed (drop-append-le opened prefix (e ∷ []) within)
-    ∙ later_by (drop opened prefix) prefix e (client_closed prefix) refl closed in_time (open_behind opened prefix)
+pub in_time_more : (standing : Standing) (prefix : List (Timed Event)) (e : Timed Event) → standing.opened ≤ length prefix → InTime standing prefix → InTime standing (prefix ++ e ∷ [])
+in_time_more standing prefix e within in_time = λ closed.
+    ap client_closed (drop-append-le standing.opened prefix (e ∷ []) within)
+    ∙ later_by (drop standing.opened prefix) prefix e (client_closed prefix) refl closed in_time (open_behind standing.opened prefix)
 
--- ---- where the same side is parked, or none
+-- ---- where the client had closed before a server was connected, of which nothing is heard then, the conversation ends
 
-in_time_from : (was later : Option Parked) (opened : ℕ) (prefix : List (Timed Event)) → IsParkedFrom was later → OpensInTime was opened prefix → OpensInTime later opened prefix
-in_time_from was later opened prefix (same_parked is) in_time = let P : Option Parked → Type 0 = λ p. OpensInTime p opened prefix in subst P (sym is) in_time
-in_time_from was later opened prefix (none_parked is) in_time = let P : Option Parked → Type 0 = λ p. OpensInTime p opened prefix in subst P (sym is) tt
+leaves_by : (closed : Bool) (leaves : List Command) (found : Look Command) → closed ≡ true → ((ask : Command) → found ≡ Asks ask → ⊥) → (owed : List Command) × (or_leaves closed leaves found ≡ Ends owed)
+leaves_by true leaves NotYet is none = (leaves, refl)
+leaves_by false leaves NotYet is none = absurd (let no : false ≡ true = is in cc)
+leaves_by closed leaves (Asks ask) is none = absurd (none ask refl)
+leaves_by closed leaves (Ends owed) is none = (owed, refl)
 
--- what a reply or a passage leads to
-abbrev Parks : Option Parked → Stage → Type 0
-Parks was to = IsParkedFrom was (place_of (sequence to)).parked
+bad_asks : (item : Item ReadRequest) (ends : Fault → List Command) (ask : Command) → bad_or item ends NotYet ≡ Asks ask → ⊥
+bad_asks missing ends ask is = let no : NotYet ≡ Asks ask = is in cc
+bad_asks (part head body) ends ask is = let no : NotYet ≡ Asks ask = is in cc
+bad_asks (complete head body trailers size) ends ask is = let no : NotYet ≡ Asks ask = is in cc
+bad_asks (bad_head fault) ends ask is = let no : NotYet ≡ Asks ask = is in cc
+bad_asks (bad_body fault head body) ends ask is = let no : Ends (ends fault) ≡ Asks ask = is in cc
 
--- ---- a flow passes
+up_asks : (sent : Sent) (seen : Sight) (ends : Fault → List Command) (ask : Command) → look_up sent seen ends NotYet ≡ Asks ask → ⊥
+up_asks all_sent seen ends ask is = let no : NotYet ≡ Asks ask = is in cc
+up_asks going_up seen ends ask is = bad_asks (request_in seen) ends ask is
 
-given_passes : (at : At) (flow : Flow) (response : Response) (most : Option ℕ) (item : Item ReadRequest) (now : ℕ) →
-    IsParkedFrom at.parked (place_of (pass_given at flow response most item now)).parked
-given_passes at flow response most missing now = same_parked refl
-given_passes at flow response most (part head body) now = same_parked refl
-given_passes at flow response most (complete head body trailers used) now = same_parked refl
-given_passes at flow response most (bad_head fault) now = same_parked refl
-given_passes at flow response most (bad_body fault head body) now = same_parked refl
+nothing_told : (asked_head : Bool) → (answer_list asked_head false []).final ≡ missing
+nothing_told true = refl
+nothing_told false = refl
 
--- a request that goes up on the parked side leaves none
-up_passes : (side : Option ℕ) (place : Place) (at : At) (flow : Flow) → IsParkedFrom at.parked (place_of (goes_up_by side place at flow)).parked
-up_passes None place at flow = same_parked refl
-up_passes (Some server) place at flow = none_parked refl
+nothing : (n : ℕ) (none : List ℕ) → none ≡ [] → drop n none ≡ []
+nothing zero none is = is
+nothing (suc n) none is = ap (drop (suc n)) is
 
-going_passes : (goes : Bool) (place : Place) (at : At) (flow : Flow) (most : Option ℕ) → IsParkedFrom at.parked (place_of (pass_going goes place at flow most)).parked
-going_passes true place at flow most = up_passes (parked_for place flow.request at.parked) place at (sending_on flow)
-going_passes false place at flow most = same_parked refl
+record IsUnheard (seen : Sight) : Type 0 where
+  closed : seen.closed ≡ true
+  server : seen.server ≡ []
+  shut : seen.shut ≡ false
 
-begins_passes : (place : Place) (at : At) (flow : Flow) (doing : Doing) (seen : Sight) → IsParkedFrom at.parked (place_of (begins_up place at flow doing seen)).parked
-begins_passes place at flow (request_body None most) seen = going_passes (begins_going place at flow most seen) place at flow most
-begins_passes place at flow (request_body (Some response) most) seen = given_passes at flow response most (request_in seen) seen.now
-begins_passes place at flow (connection sent) seen = same_parked refl
-begins_passes place at flow (response_head server how) seen = same_parked refl
-begins_passes place at flow (response_body server how most) seen = same_parked refl
-begins_passes place at flow (coming_down server how) seen = same_parked refl
-begins_passes place at flow (upgraded server) seen = same_parked refl
-begins_passes place at flow given_head seen = same_parked refl
-begins_passes place at flow given_body seen = same_parked refl
+module _ (terms : Terms) (at : At) (server : ℕ) where
+  head_ends : (flow : Flow) (sent : Sent) (seen : Sight) → IsUnheard seen → (owed : List Command) × (look terms (busy at flow (response_head server sent)) seen ≡ Ends owed)
+  head_ends flow sent seen is =
+      let stage : Stage = busy at flow (response_head server sent) in
+      let asked : Bool = is_head flow.request.method in
+      let nothing : (answers_in flow.request seen).final ≡ missing =
+      ap (λ shut. (answer_list asked shut seen.server).final) is.shut ∙ (ap (λ bytes. (answer_list asked false bytes).final) is.server ∙ nothing_told asked) in
+      let ends : Fault → List Command = λ fault. ends_by_fault flow fault seen.now (server_in server seen) seen.closed in
+      let found : find terms stage seen ≡ look_up sent seen ends NotYet =
+      ap (λ item. look_up sent seen ends (look_answer flow item seen.now (server_in server seen) seen.closed)) nothing in
+      leaves_by seen.closed (leaving (unspoilt stage seen) seen) (find terms stage seen) is.closed (λ ask asks. up_asks sent seen ends ask (sym found ∙ asks))
 
-stage_begins : (terms : Terms) (stage : Stage) (seen : Sight) → IsParkedFrom (place_of stage).parked (place_of (begin_up terms stage seen)).parked
-stage_begins terms (idle at) seen = same_parked refl
-stage_begins terms (busy at flow doing) seen = begins_passes terms.place at flow doing seen
-stage_begins terms (next at) seen = same_parked refl
-stage_begins terms over seen = same_parked refl
+  -- so it does where it has passed on
+  passed_ends : (flow : Flow) (sent : Sent) (gone : Option ℕ) (seen : Sight) → IsUnheard seen →
+      (let up = end_by gone terms.place at flow (response_head server sent) seen in
+      (owed : List Command) × (look terms (sequence (come_down terms up.stage (past_gone gone seen)).stage) (sight_come up.stage (past_gone gone seen)) ≡ Ends owed))
+  passed_ends flow sent None seen is = head_ends flow sent seen is
+  passed_ends flow sent (Some size) seen is =
+      head_ends (with_whole flow seen.now) all_sent (past_gone (Some size) seen) (record { closed = is.closed; server = is.server; shut = is.shut })
 
-ends_passes : (gone : Option ℕ) (place : Place) (at : At) (flow : Flow) (doing : Doing) (seen : Sight) → IsParkedFrom at.parked (place_of (end_by gone place at flow doing seen).stage).parked
-ends_passes None place at flow doing seen = same_parked refl
-ends_passes (Some server) place at flow doing seen = same_parked refl
+  -- over a prefix
+  unheard_over : (flow : Flow) (sent : Sent) (since : Since) (opened : ℕ) (used : UsedBytes) (told : ℕ) (prefix : List (Timed Event)) → drop opened prefix ≡ [] → client_closed prefix ≡ true →
+      (let standing : Standing = record { stage = busy at flow (response_head server sent); since = since; opened = opened; used = used; told = told } in IsUnheard (sight_over standing prefix))
+  unheard_over flow sent since opened used told prefix behind closed = record {
+    closed = closed;
+    server = nothing used.server (bytes_of (Server server) (drop opened prefix)) (ap (λ l. bytes_of (Server server) l) behind);
+    shut = ap (λ l. is_closed (Server server) l) behind;
+  }
 
-stage_ends : (terms : Terms) (stage : Stage) (seen : Sight) → IsParkedFrom (place_of stage).parked (place_of (end_up terms stage seen).stage).parked
-stage_ends terms (idle at) seen = same_parked refl
-stage_ends terms (busy at flow doing) seen = ends_passes (gone_by (going_at doing) (whole_in seen)) terms.place at flow doing seen
-stage_ends terms (next at) seen = same_parked refl
-stage_ends terms over seen = same_parked refl
-
--- behind its own side a flow leaves none
-none_behind : (was : Option Parked) (stays : Bool) (at : At) → Parks was (behind_flow stays (unparked at))
-none_behind was true at = none_parked refl
-none_behind was false at = none_parked refl
-
-came_passes : (place : Place) (at : At) (flow : Flow) (server : ℕ) (how : Sent) (seen : Sight) (came : Option Came) →
-    Parks at.parked (pass_came place at flow server how seen came).stage
-came_passes place at flow server how seen None = same_parked refl
-came_passes place at flow server how seen (Some came) = none_behind at.parked (is_sent how && goes_on_behind at.flow flow.request came) at
-
-kept_passes : (streams : Bool) (place : Place) (at : At) (flow : Flow) (server : ℕ) (how : Sent) (most : Option ℕ) (seen : Sight) →
-    Parks at.parked (pass_kept streams place at flow server how most seen).stage
-kept_passes true place at flow server how most seen = came_passes place at (streaming flow) server how seen (came_in (streaming flow) seen)
-kept_passes false place at flow server how most seen = same_parked refl
-
-stage_comes : (terms : Terms) (stage : Stage) (seen : Sight) → Parks (place_of stage).parked (come_down terms stage seen).stage
-stage_comes terms (idle at) seen = same_parked refl
-stage_comes terms (busy at flow (request_body given most)) seen = same_parked refl
-stage_comes terms (busy at flow (connection sent)) seen = same_parked refl
-stage_comes terms (busy at flow (response_head server how)) seen = same_parked refl
-stage_comes terms (busy at flow (response_body server how most)) seen = kept_passes (streams_in flow most seen) terms.place at flow server how most seen
-stage_comes terms (busy at flow (coming_down server how)) seen = came_passes terms.place at flow server how seen (came_in flow seen)
-stage_comes terms (busy at flow (upgraded server)) seen = same_parked refl
-stage_comes terms (busy at flow given_head) seen = same_parked refl
-stage_comes terms (busy at flow given_body) seen = same_parked refl
-stage_comes terms (next at) seen = same_parked refl
-stage_comes terms over seen = same_parked refl
-
--- one behind the other
-parked_on : (first was later : Option Parked) → IsParkedFrom first was → IsParkedFrom was later → IsParkedFrom first later
-parked_on first was later (same_parked one) (same_parked two) = same_parked (two ∙ one)
-parked_on first was later (none_parked one) (same_parked two) = none_parked (two ∙ one)
-parked_on first was later before (none_parked two) = none_parked two
-
-stage_passes : (terms : Terms) (stage : Stage) (seen : Sight) → Parks (place_of stage).parked (pass terms stage seen).stage
-stage_passes terms stage seen =
-    let begun : Stage = begin_up terms stage seen in
-    let there : Stage = gone_up terms stage seen in
-    parked_on (place_of stage).parked (place_of begun).parked _ (stage_begins terms stage seen)
-    (parked_on (place_of begun).parked (place_of there).parked _ (stage_ends terms begun (sight_begun stage seen)) (stage_comes terms there (sight_gone terms stage seen)))
-
-pub in_time_passed : (terms : Terms) (standing : Standing) (prefix : List (Timed Event)) → InTime standing prefix → InTime (passed sequence terms standing (sight_over standing prefix)) prefix
-in_time_passed terms standing prefix in_time =
-    in_time_from (place_of standing.stage).parked _ standing.opened prefix (stage_passes terms standing.stage (sight_over standing prefix)) in_time
+  unheard_ends : (flow : Flow) (sent : Sent) (since : Since) (opened : ℕ) (used : UsedBytes) (told : ℕ) (prefix : List (Timed Event)) → drop opened prefix ≡ [] → client_closed prefix ≡ true →
+      (let standing : Standing = record { stage = busy at flow (response_head server sent); since = since; opened = opened; used = used; told = told } in
+      let on = passed sequence terms standing (sight_over standing prefix) in
+      (owed : List Command) × (look terms on.stage (sight_over on prefix) ≡ Ends owed))
+  unheard_ends flow sent since opened used told prefix behind closed =
+      let standing : Standing = record { stage = busy at flow (response_head server sent); since = since; opened = opened; used = used; told = told } in
+      let seen : Sight = sight_over standing prefix in
+      let on = passed sequence terms standing seen in
+      let ends = passed_ends flow sent (gone_by (going_at (response_head server sent)) (whole_in seen)) seen (unheard_over flow sent since opened used told prefix behind closed) in
+      (ends.0, ap (look terms on.stage) (sight_passed sequence (is_sequence refl) terms standing prefix) ∙ ends.1)
 
 -- ---- a reply leads on
 
-taken_head_parks : (at : At) (flow : Flow) (expected : Bool) (most : Option ℕ) (taken : Taken Request) (moment : ℕ) (seen : Sight) → Parks at.parked (turn_taken_head at flow expected most taken moment seen).stage
-taken_head_parks at flow expected most (GoesOn request) moment seen = same_parked refl
-taken_head_parks at flow expected most (Responds response) moment seen = same_parked refl
-taken_head_parks at flow expected most Kills moment seen = none_parked refl
+pub in_time_connected : (terms : Terms) (at : At) (flow : Flow) (server : ℕ) (sent : Sent) (since : Since) (opened : ℕ) (used : UsedBytes) (told : ℕ) (prefix : List (Timed Event)) → drop opened prefix ≡ [] →
+    (let standing : Standing = record { stage = busy at flow (response_head server sent); since = since; opened = opened; used = used; told = told } in
+    StaysInTime terms (passed sequence terms standing (sight_over standing prefix)) prefix)
+in_time_connected terms at flow server sent since opened used told prefix behind no_end closed =
+    let ends = unheard_ends terms at server flow sent since opened used told prefix behind closed in absurd (no_end ends.0 ends.1)
 
-judged_parks : (terms : Terms) (at : At) (head : ReadRequest) (made : Judged) (seen : Sight) (answer : Timed Reply) → Parks at.parked (turn_judged terms at head made seen answer).stage
-judged_parks terms at head (Refused fault) seen answer = none_parked refl
-judged_parks terms at head (Connects address) seen answer = none_parked refl
-judged_parks terms at head (Accepted request) seen answer =
-    taken_head_parks at (flow_of terms at.flow request seen.now) (expects head) (allowed_up_by terms.streams answer.value) (taken_at_request_head request answer.value) answer.moment seen
+data IsDialledTo (to : Stage) : Type 0 where
+  to_head : (at : At) (flow : Flow) (server : ℕ) (sent : Sent) → to ≡ busy at flow (response_head server sent) → IsDialledTo to
+  to_end : to ≡ over → IsDialledTo to
 
-head_parks : (terms : Terms) (at : At) (item : Item ReadRequest) (seen : Sight) (answer : Timed Reply) → Parks at.parked (turn_head terms at item seen answer).stage
-head_parks terms at missing seen answer = none_parked refl
-head_parks terms at (part head body) seen answer = judged_parks terms at head (judged terms.place head) seen answer
-head_parks terms at (complete head body trailers used) seen answer = judged_parks terms at head (judged terms.place head) seen answer
-head_parks terms at (bad_head fault) seen answer = none_parked refl
-head_parks terms at (bad_body fault head body) seen answer = judged_parks terms at head (judged terms.place head) seen answer
+dialled_to : (place : Place) (at : At) (flow : Flow) (sent : Sent) (answer : Reply) → IsDialledTo (sequence (dial_leads place at flow sent answer))
+dialled_to place at flow sent reply.Dialled = to_head _ _ _ _ refl
+dialled_to place at flow sent (reply.Refused fault) = to_end refl
+dialled_to place at flow sent (reply.Go given stream) = to_end refl
+dialled_to place at flow sent (reply.Respond response) = to_end refl
+dialled_to place at flow sent reply.Kill = to_end refl
+dialled_to place at flow sent reply.Discard = to_end refl
 
-goes_on_parks : (side : Option ℕ) (place : Place) (at : At) (flow : Flow) → Parks at.parked (goes_on_by side place at flow).stage
-goes_on_parks None place at flow = same_parked refl
-goes_on_parks (Some server) place at flow = none_parked refl
+module _ (terms : Terms) (since : Since) (used : UsedBytes) (told : ℕ) (prefix : List (Timed Event)) where
+  -- a place from here on, and where it has passed on
+  abbrev from_now : Stage → Standing
+  from_now stage = record { stage = stage; since = since; opened = length prefix; used = used; told = told }
 
-taken_body_parks : (place : Place) (at : At) (flow : Flow) (taken : Taken Request) (moment : ℕ) (seen : Sight) → Parks at.parked (turn_taken_body place at flow taken moment seen).stage
-taken_body_parks place at flow (GoesOn request) moment seen = goes_on_parks (parked_for place request at.parked) place at (record flow { request = request })
-taken_body_parks place at flow (Responds response) moment seen = same_parked refl
-taken_body_parks place at flow Kills moment seen = none_parked refl
+  abbrev passed_now : Stage → Standing
+  passed_now stage = passed sequence terms (from_now stage) (sight_over (from_now stage) prefix)
 
-body_parks : (place : Place) (at : At) (flow : Flow) (item : Item ReadRequest) (seen : Sight) (answer : Timed Reply) → Parks at.parked (turn_body place at flow item seen answer).stage
-body_parks place at flow missing seen answer = none_parked refl
-body_parks place at flow (part head body) seen answer = none_parked refl
-body_parks place at flow (complete head body trailers used) seen answer =
-    let whole : Flow = with_body flow body.content trailers seen.now in
-    taken_body_parks place at whole (taken_at_request_body whole.request answer.value) answer.moment seen
-body_parks place at flow (bad_head fault) seen answer = none_parked refl
-body_parks place at flow (bad_body fault head body) seen answer = none_parked refl
+  dialled_in_time : (to : Stage) → IsDialledTo to → StaysInTime terms (passed_now to) prefix
+  dialled_in_time to (to_head at flow server sent is) =
+      let P : Stage → Type 0 = λ s. StaysInTime terms (passed_now s) prefix in
+      subst P (sym is) (in_time_connected terms at flow server sent since (length prefix) used told prefix (drop-length prefix))
+  dialled_in_time to (to_end is) =
+      let P : Stage → Type 0 = λ s. StaysInTime terms (passed_now s) prefix in subst P (sym is) (λ no_end. absurd (no_end [] refl))
 
-taken_answer_parks : (at : At) (flow : Flow) (server : ℕ) (how : Sent) (most : Option ℕ) (taken : Taken Response) (moment : ℕ) (used : Used) (closed : Bool) →
-    Parks at.parked (turn_taken_answer at flow server how most taken moment used closed).stage
-taken_answer_parks at flow server how most (GoesOn response) moment used closed = same_parked refl
-taken_answer_parks at flow server how most (Responds response) moment used closed = none_parked refl
-taken_answer_parks at flow server how most Kills moment used closed = none_parked refl
-
-answer_head_parks : (terms : Terms) (at : At) (flow : Flow) (server : ℕ) (how : Sent) (head : ReadResponse) (seen : Sight) (answer : Timed Reply) →
-    Parks at.parked (turn_answer_head terms at flow server how head seen answer).stage
-answer_head_parks terms at flow server how head seen answer =
-    taken_answer_parks at (with_answer flow (response_of head) seen.now) server how (allowed_by terms.streams answer.value)
-    (taken_at_response_head (response_of head) answer.value) answer.moment (server_in server seen) seen.closed
-
-answer_parks : (terms : Terms) (at : At) (flow : Flow) (server : ℕ) (how : Sent) (item : Item ReadResponse) (seen : Sight) (answer : Timed Reply) →
-    Parks at.parked (turn_answer terms at flow server how item seen answer).stage
-answer_parks terms at flow server how missing seen answer = none_parked refl
-answer_parks terms at flow server how (part head body) seen answer = answer_head_parks terms at flow server how head seen answer
-answer_parks terms at flow server how (complete head body trailers size) seen answer = answer_head_parks terms at flow server how head seen answer
-answer_parks terms at flow server how (bad_head fault) seen answer = none_parked refl
-answer_parks terms at flow server how (bad_body fault head body) seen answer = answer_head_parks terms at flow server how head seen answer
-
-behind_parks : (stays : Bool) (at : At) → Parks at.parked (behind_flow stays at)
-behind_parks true at = same_parked refl
-behind_parks false at = none_parked refl
-
-response_parks : (was : Option Parked) (there : Option Response) (takes : Response → Taken Response) (goes : Taken Response → Turn Stage Command) →
-    ((taken : Taken Response) → Parks was (goes taken).stage) → Parks was (turn_response there takes goes).stage
-response_parks was None takes goes each = none_parked refl
-response_parks was (Some response) takes goes each = each (takes response)
-
-taken_returned_parks : (at : At) (flow : Flow) (taken : Taken Response) (moment : ℕ) (parked : Used) (closed : Bool) → Parks at.parked (turn_taken_returned at flow taken moment parked closed).stage
-taken_returned_parks at flow (GoesOn response) moment parked closed = behind_parks (connection_goes_on at.flow flow.request response) at
-taken_returned_parks at flow (Responds response) moment parked closed = none_parked refl
-taken_returned_parks at flow Kills moment parked closed = none_parked refl
-
-finish_parks : (switches : Bool) (at : At) (flow : Flow) (how : Sent) (response : Response) (server : ℕ) (used : Used) (closed : Bool) →
-    Parks at.parked (finish_by switches at flow how response server used closed).stage
-finish_parks true at flow how response server used closed = same_parked refl
-finish_parks false at flow how response server used closed = none_behind at.parked (is_sent how && connection_goes_on at.flow flow.request response) at
-
-taken_whole_parks : (at : At) (flow : Flow) (server : ℕ) (how : Sent) (taken : Taken Response) (moment : ℕ) (used : Used) (closed : Bool) →
-    Parks at.parked (turn_taken_whole at flow server how taken moment used closed).stage
-taken_whole_parks at flow server how (GoesOn response) moment used closed = finish_parks (is_sent how && response.status == 101) at flow how response server used closed
-taken_whole_parks at flow server how (Responds response) moment used closed = none_parked refl
-taken_whole_parks at flow server how Kills moment used closed = none_parked refl
-
-returned_parks : (at : At) (flow : Flow) (server : ℕ) (how : Sent) (item : Item ReadResponse) (seen : Sight) (answer : Timed Reply) →
-    Parks at.parked (turn_returned at flow server how item seen answer).stage
-returned_parks at flow server how missing seen answer = none_parked refl
-returned_parks at flow server how (part head body) seen answer = none_parked refl
-returned_parks at flow server how (complete head body trailers size) seen answer =
-    let whole : Flow = with_returned flow body.content trailers seen.now in
-    response_parks at.parked whole.response (λ response. taken_at_response_body response answer.value)
-    (λ taken. turn_taken_whole at whole server how taken answer.moment (server_in server seen) seen.closed)
-    (λ taken. taken_whole_parks at whole server how taken answer.moment (server_in server seen) seen.closed)
-returned_parks at flow server how (bad_head fault) seen answer = none_parked refl
-returned_parks at flow server how (bad_body fault head body) seen answer = none_parked refl
-
-taken_given_parks : (at : At) (flow : Flow) (taken : Taken Response) (moment : ℕ) (parked : Used) (closed : Bool) → Parks at.parked (turn_taken_given at flow taken moment parked closed).stage
-taken_given_parks at flow (GoesOn response) moment parked closed = same_parked refl
-taken_given_parks at flow (Responds response) moment parked closed = none_parked refl
-taken_given_parks at flow Kills moment parked closed = none_parked refl
-
-given_parks : (at : At) (flow : Flow) (answer : Timed Reply) (parked : Used) (closed : Bool) → Parks at.parked (turn_given_head at flow answer parked closed).stage
-given_parks at flow answer parked closed =
-    response_parks at.parked flow.response (λ response. taken_at_response_head response answer.value)
-    (λ taken. turn_taken_given at flow taken answer.moment parked closed)
-    (λ taken. taken_given_parks at flow taken answer.moment parked closed)
-
-whole_parks : (at : At) (flow : Flow) (answer : Timed Reply) (parked : Used) (closed : Bool) → Parks at.parked (turn_whole_answer at flow answer parked closed).stage
-whole_parks at flow answer parked closed =
-    response_parks at.parked flow.response (λ response. taken_at_response_body response answer.value)
-    (λ taken. turn_taken_returned at flow taken answer.moment parked closed)
-    (λ taken. taken_returned_parks at flow taken answer.moment parked closed)
-
--- behind a dial none is
-dial_parks : (place : Place) (at : At) (flow : Flow) (sent : Sent) (answer : Reply) → (place_of (sequence (dial_leads place at flow sent answer))).parked ≡ None
-dial_parks place at flow sent reply.Dialled = refl
-dial_parks place at flow sent (reply.Refused fault) = refl
-dial_parks place at flow sent (reply.Go given stream) = refl
-dial_parks place at flow sent (reply.Respond response) = refl
-dial_parks place at flow sent reply.Kill = refl
-dial_parks place at flow sent reply.Discard = refl
-
-turned_by : (terms : Terms) (stage : Stage) (seen : Sight) (answer : Timed Reply) (opened come : ℕ) (prefix : List (Timed Event)) → OpensInTime (place_of stage).parked opened prefix →
-    OpensInTime (place_of (sequence (turn terms stage seen answer).stage)).parked (opened_by (dials_at stage) opened come) prefix
-turned_by terms (idle at) seen answer opened come prefix in_time = in_time_from at.parked _ opened prefix (head_parks terms at (request_in seen) seen answer) in_time
-turned_by terms (busy at flow (request_body given most)) seen answer opened come prefix in_time =
-    in_time_from at.parked _ opened prefix (body_parks terms.place at flow (request_in seen) seen answer) in_time
-turned_by terms (busy at flow (connection sent)) seen answer opened come prefix in_time =
-    let P : Option Parked → Type 0 = λ p. OpensInTime p come prefix in subst P (sym (dial_parks terms.place at flow sent answer.value)) tt
-turned_by terms (busy at flow (response_head server how)) seen answer opened come prefix in_time =
-    in_time_from at.parked _ opened prefix (answer_parks terms at flow server how (answers_in flow.request seen).final seen answer) in_time
-turned_by terms (busy at flow (response_body server how most)) seen answer opened come prefix in_time =
-    in_time_from at.parked _ opened prefix (returned_parks at flow server how (answers_in flow.request seen).final seen answer) in_time
-turned_by terms (busy at flow (coming_down server how)) seen answer opened come prefix in_time = tt
-turned_by terms (busy at flow (upgraded server)) seen answer opened come prefix in_time = tt
-turned_by terms (busy at flow given_head) seen answer opened come prefix in_time =
-    in_time_from at.parked _ opened prefix (given_parks at (given_at flow seen.now) answer (server_parked at.parked seen) seen.closed) in_time
-turned_by terms (busy at flow given_body) seen answer opened come prefix in_time =
-    in_time_from at.parked _ opened prefix (whole_parks at flow answer (server_parked at.parked seen) seen.closed) in_time
-turned_by terms (next at) seen answer opened come prefix in_time = in_time
-turned_by terms over seen answer opened come prefix in_time = tt
+-- no reply but that to a dial connects a side
+turned_by : (terms : Terms) (stage : Stage) (seen : Sight) (answer : Timed Reply) (since : Since) (opened : ℕ) (used : UsedBytes) (told : ℕ) (prefix : List (Timed Event)) →
+    (client_closed prefix ≡ true → client_closed (drop opened prefix) ≡ true) →
+    (let to : Standing = record {
+      stage = sequence (turn terms stage seen answer).stage;
+      since = since;
+      opened = opened_by (dials_at stage) opened (length prefix);
+      used = used;
+      told = told;
+    } in
+    StaysInTime terms (passed sequence terms to (sight_over to prefix)) prefix)
+turned_by terms (idle at) seen answer since opened used told prefix in_time = λ no_end. in_time
+turned_by terms (busy at flow (request_body given most)) seen answer since opened used told prefix in_time = λ no_end. in_time
+turned_by terms (busy at flow (connection sent)) seen answer since opened used told prefix in_time =
+    dialled_in_time terms since used told prefix _ (dialled_to terms.place (unspoilt_at at seen) flow sent answer.value)
+turned_by terms (busy at flow (response_head server how)) seen answer since opened used told prefix in_time = λ no_end. in_time
+turned_by terms (busy at flow (response_body server how most)) seen answer since opened used told prefix in_time = λ no_end. in_time
+turned_by terms (busy at flow (coming_down server how)) seen answer since opened used told prefix in_time = λ no_end. in_time
+turned_by terms (busy at flow (upgraded server)) seen answer since opened used told prefix in_time = λ no_end. in_time
+turned_by terms (busy at flow given_head) seen answer since opened used told prefix in_time = λ no_end. in_time
+turned_by terms (busy at flow given_body) seen answer since opened used told prefix in_time = λ no_end. in_time
+turned_by terms (next at) seen answer since opened used told prefix in_time = λ no_end. in_time
+turned_by terms over seen answer since opened used told prefix in_time = λ no_end. in_time
 
 pub in_time_turned : (terms : Terms) (standing : Standing) (prefix : List (Timed Event)) (answer : Timed Reply) → InTime standing prefix →
-    InTime (stands terms standing answer.moment prefix (sequence (turn terms standing.stage (sight_over standing prefix) answer).stage)) prefix
-in_time_turned terms standing prefix answer in_time = turned_by terms standing.stage (sight_over standing prefix) answer standing.opened (length prefix) prefix in_time
+    (let to = stands terms standing answer.moment prefix (sequence (turn terms standing.stage (sight_over standing prefix) answer).stage) in
+    StaysInTime terms (passed sequence terms to (sight_over to prefix)) prefix)
+in_time_turned terms standing prefix answer in_time =
+    let to = stands terms standing answer.moment prefix (sequence (turn terms standing.stage (sight_over standing prefix) answer).stage) in
+    turned_by terms standing.stage (sight_over standing prefix) answer to.since standing.opened to.used to.told prefix in_time

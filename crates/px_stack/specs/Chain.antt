@@ -21,7 +21,8 @@ use Rattle.px_exchange.specs.Places.{address_of, place_of, terms_of}
 use Rattle.px_exchange.specs.Texts.{connected_text}
 use Rattle.px_chain.specs.Chain.{Connect, begin, connect_in, http_chain, reached, sequence}
 use Rattle.px_chain.specs.Sights.{Sight, Standing, request_in, sight_over}
-use Rattle.px_chain.specs.Stages.{At, busy, connection, idle, response_head, unparked, upgraded}
+use Rattle.px_chain.specs.Keeping.{unspoilt_at}
+use Rattle.px_chain.specs.Stages.{At, Parked, busy, connection, idle, response_head, unparked, upgraded}
 use Rattle.px_chain.specs.Stages as flows
 use Rattle.px_event.specs.Sides.{closes, piece_of}
 use Rattle.px_chain.specs.Streams.{Since, bytes_of, client_closed, from_here, is_closed, last_moment, now_over}
@@ -54,7 +55,7 @@ upgrades false flow moment ends = raw ends
 
 -- behind a CONNECT, and behind a response of code 101
 abbrev pub hands_by : Place → Standing → flows.Stage → Sight → Option Stage
-hands_by place standing (idle at) seen = tunnel_for place standing.used.client at (connect_in place (request_in seen))
+hands_by place standing (idle at) seen = tunnel_for place standing.used.client (unspoilt_at at seen) (connect_in place (request_in seen))
 hands_by place standing (busy at flow (upgraded server)) seen = Some (upgrades (is_websocket flow seen.closed) flow seen.now (record {
   used = standing.used.client;
   link = record { server = server; used = standing.used.server; opened = standing.opened };
@@ -68,6 +69,11 @@ hands_over place standing prefix = hands_by place standing standing.stage (sight
 abbrev pub or_stays : Stage → Option Stage → Stage
 or_stays stage None = stage
 or_stays stage (Some to) = to
+
+-- What HTTP owed while it waited is owed for good where it hands over: the close of a parked side of which a byte came.
+abbrev pub owed_at_handing : Option Stage → List Command → List Command
+owed_at_handing None owed = []
+owed_at_handing (Some to) owed = owed
 
 -- ---- a tunnel of which nothing is decided
 
@@ -198,6 +204,11 @@ opening_look link prefix =
 
 -- ---- dials
 
+-- the close of a side that was parked when a CONNECT came
+abbrev pub shut_parked : Option Parked → List Command
+shut_parked None = []
+shut_parked (Some parked) = commands.Close (Server parked.server) ∷ []
+
 -- what is dialled for a CONNECT: the proxy that it goes through, or where it asks for a tunnel to
 abbrev pub dialled_by : Tunnel → Address
 dialled_by tunnel = unwrap_or tunnel.proxy tunnel.address
@@ -247,16 +258,21 @@ module _ (conv : ℕ) (client : Visitor) where
   begun (socket ends flow frames) prefix = pass_socket ends flow frames prefix
   begun stage prefix = record { owed = []; stage = stage }
 
+  -- this is owed before
+  abbrev pub owing : List Command → Turn Stage Command → Turn Stage Command
+  owing owed on = record { owed = owed ++ on.owed; stage = on.stage }
+
+  -- what follows HTTP where it has passed on, if anything does
+  abbrev pub follows_to : Place → Standing → List (Timed Event) → Turn Stage Command
+  follows_to place standing prefix =
+      owing (owed_at_handing (hands_over place standing prefix) ((flows_at place).so_far standing prefix)) (begun (pass_http place standing prefix) prefix)
+
   -- HTTP passes on, and what follows it begins
   abbrev pub pass_flows : Place → Standing → List (Timed Event) → Turn Stage Command
   pass_flows place standing prefix =
       let on = (flows_at place).pass standing prefix in
-      let to = begun (pass_http place on.stage prefix) prefix in
+      let to = follows_to place on.stage prefix in
       record { owed = on.owed ++ to.owed; stage = to.stage }
-
-  -- this is owed before
-  abbrev pub owing : List Command → Turn Stage Command → Turn Stage Command
-  owing owed on = record { owed = owed ++ on.owed; stage = on.stage }
 
   -- a proxy that let through, or refused
   abbrev pub pass_reached : Goal → Link → Since → List (Timed Event) → Granting → Turn Stage Command
@@ -298,14 +314,15 @@ module _ (conv : ℕ) (client : Visitor) where
       commands.Send (Server ends.link.server) (text_up ends prefix) ∷ commands.Send Client (text_down ends prefix) ∷ []
   so_far stage prefix = []
 
-  -- behind the dial for a flow the side that was parked is closed
+  -- behind a dial, for a flow or for a CONNECT, the side that was parked is closed
   abbrev pub behind : Stage → List (Timed Event) → List Command
   behind (http place standing) prefix = (flows_at place).behind standing prefix
+  behind (connecting tunnel) prefix = shut_parked tunnel.at.parked
   behind stage prefix = []
 
-  -- one dial more was made
+  -- one dial more was made, and nothing is parked any more
   abbrev pub dialled_more : Tunnel → Tunnel
-  dialled_more tunnel = record tunnel { at = record tunnel.at { dials = tunnel.at.dials + 1 } }
+  dialled_more tunnel = record tunnel { at = record tunnel.at { dials = tunnel.at.dials + 1; parked = None } }
 
   -- a server that is connected, or a proxy, which is asked for a tunnel to there
   abbrev pub link_at : ℕ → List (Timed Event) → Link

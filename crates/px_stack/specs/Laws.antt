@@ -28,9 +28,10 @@ use Rattle.px_exchange.specs.Endings.{shut_server}
 use Rattle.px_exchange.specs.Places.{terms_of}
 use Rattle.px_exchange.specs.Finds.{look_head, look_judged, or_leaves}
 use Rattle.px_exchange.specs.Requests.{judged, judged_goal, judged_length, judged_method}
-use Rattle.px_chain.specs.Chain.{Connect, connect_by, connect_in, is_sequence, look as look_of, so_far as so_far_of, sequence}
+use Rattle.px_chain.specs.Chain.{Connect, connect_by, connect_in, is_sequence, look as look_of, sequence, so_far as so_far_of}
+use Rattle.px_chain.specs.Keeping.{shut_stray, unspoilt_at}
 use Rattle.px_chain.specs.Sights.{Sight, Standing, request_in, server_parked, sight_over}
-use Rattle.px_chain.specs.Stages.{At, busy, coming_down, connection, given_body, given_head, idle, next, place_of, request_body, response_body, response_head, upgraded}
+use Rattle.px_chain.specs.Stages.{At, Parked, busy, coming_down, connection, given_body, given_head, idle, next, place_of, request_body, response_body, response_head, upgraded}
 use Rattle.px_chain.specs.Stages as flows
 use Rattle.px_event.specs.Sides.{piece_of}
 use Rattle.px_chain.specs.Streams.{Since, bytes_of, client_closed, from_here, now_over}
@@ -41,7 +42,7 @@ use Rattle.px_tunnel.specs.Laws.{both_append}
 use Rattle.px_tunnel.specs.Upstream.{Granting, awaited, granted, refused}
 use Rattle.px_relay.specs.Laws.{settles as frames_settle}
 use Rattle.px_relay.specs.Stages.{Stage as Frames}
-use Rattle.px_stack.specs.Chain.{answer_of, begun, connected_on, flows_at, follows, goes_by, hands_by, hands_over, has_answered, inner_place, inner_standing, is_shut, opening_text, or_stays, pass_http, pass_reached, pass_socket, proxy_at, raw_look, socket_sight, socket_terms, stack_chain, text_down, text_up, tunnel_for, tunnel_found, upgrades, way_to, pass_flows}
+use Rattle.px_stack.specs.Chain.{answer_of, begun, connected_on, flows_at, follows, goes_by, hands_by, hands_over, has_answered, inner_place, inner_standing, is_shut, opening_text, or_stays, owed_at_handing, pass_http, pass_reached, pass_socket, proxy_at, raw_look, socket_sight, socket_terms, stack_chain, text_down, text_up, tunnel_for, tunnel_found, upgrades, way_to, pass_flows}
 use Rattle.px_stack.specs.Decides.{Decision, decided, is_http, is_raw, still}
 use Rattle.px_stack.specs.Sockets.{is_websocket}
 use Rattle.px_stack.specs.Stages.{Ends as TunnelEnds, Goal, Link, Stage, Tunnel, Visitor, a_flow, a_tunnel, connecting, http, over, raw, reaching, socket, undecided}
@@ -84,10 +85,9 @@ upgrades_tunnel : (is : Bool) (flow : Flow) (moment : ℕ) (ends : TunnelEnds) �
 upgrades_tunnel true flow moment ends = tt
 upgrades_tunnel false flow moment ends = tt
 
--- Where HTTP hands over, it owes nothing, and nothing more of it comes.
+-- Where HTTP hands over, nothing more of it comes.
 pub record HandsOver (terms : Terms) (stage : flows.Stage) (seen : Sight) (to : Stage) : Type 0 where
   pub is_tunnel : IsTunnel to
-  pub owes : so_far_of terms stage seen ≡ []
   pub ends : look_of terms stage seen ≡ Ends []
 
 -- the judgement by which a CONNECT is found is the one that the look has
@@ -115,14 +115,14 @@ item_ends terms index (bad_body fault head body) moment parked closed connect is
 
 -- from a head that is awaited it hands over exactly by a CONNECT
 idle_hands : (terms : Terms) (used : ℕ) (at : At) (seen : Sight) (to : Stage) (found : Option Connect) → connect_in terms.place (request_in seen) ≡ found →
-    tunnel_for terms.place used at found ≡ Some to → HandsOver terms (idle at) seen to
+    tunnel_for terms.place used (unspoilt_at at seen) found ≡ Some to → HandsOver terms (idle at) seen to
 idle_hands terms used at seen to None is hands = absurd (let no : None ≡ Some to = hands in cc)
 idle_hands terms used at seen to (Some connect) is hands =
-    let there : Stage = connecting (record { at = at; used = used + connect.used; address = connect.address; proxy = proxy_at terms.place }) in
-    let parked : Used = server_parked at.parked seen in
+    let open_still : At = unspoilt_at at seen in
+    let there : Stage = connecting (record { at = open_still; used = used + connect.used; address = connect.address; proxy = proxy_at terms.place }) in
+    let parked : Used = server_parked open_still.parked seen in
     record {
       is_tunnel = let P : Stage → Type 0 = IsTunnel in subst P (some_same there to hands) tt;
-      owes = refl;
       ends = ap (λ l. or_leaves seen.closed (shut_server parked) l) (item_ends terms at.flow (request_in seen) seen.now parked seen.closed connect is)
           ∙ leaves_nothing seen.closed (shut_server parked);
     }
@@ -137,13 +137,34 @@ hands terms standing (busy at flow (response_body side how most)) seen to is = a
 hands terms standing (busy at flow (coming_down side how)) seen to is = absurd (let no : None ≡ Some to = is in cc)
 hands terms standing (busy at flow (upgraded server)) seen to is = record {
   is_tunnel = let P : Stage → Type 0 = IsTunnel in subst P (some_same _ to is) (upgrades_tunnel (is_websocket flow seen.closed) flow seen.now _);
-  owes = refl;
   ends = leaves_nothing seen.closed [];
 }
 hands terms standing (busy at flow given_head) seen to is = absurd (let no : None ≡ Some to = is in cc)
 hands terms standing (busy at flow given_body) seen to is = absurd (let no : None ≡ Some to = is in cc)
 hands terms standing (next at) seen to is = absurd (let no : None ≡ Some to = is in cc)
 hands terms standing flows.over seen to is = absurd (let no : None ≡ Some to = is in cc)
+
+-- What is owed for good where it hands over: nothing, or the close of a parked side of which a byte came.
+connect_owes : (owes : List Command → Type 0) → owes [] → (place : Place) (used : ℕ) (at : At) (connect : Option Connect) (owed : List Command) → owes owed →
+    owes (owed_at_handing (tunnel_for place used at connect) owed)
+connect_owes owes nothing place used at None owed is = nothing
+connect_owes owes nothing place used at (Some connect) owed is = is
+
+pub handing_owes : (owes : List Command → Type 0) → owes [] → ((parked : Option Parked) (seen : Sight) → owes (shut_stray parked seen)) →
+    (terms : Terms) (standing : Standing) (stage : flows.Stage) (seen : Sight) → owes (owed_at_handing (hands_by terms.place standing stage seen) (so_far_of terms stage seen))
+handing_owes owes nothing closes terms standing (idle at) seen =
+    connect_owes owes nothing terms.place standing.used.client (unspoilt_at at seen) (connect_in terms.place (request_in seen)) _
+    (subst owes (sym (append-nil (shut_stray at.parked seen))) (closes at.parked seen))
+handing_owes owes nothing closes terms standing (busy at flow (request_body given most)) seen = nothing
+handing_owes owes nothing closes terms standing (busy at flow (connection sent)) seen = nothing
+handing_owes owes nothing closes terms standing (busy at flow (response_head side how)) seen = nothing
+handing_owes owes nothing closes terms standing (busy at flow (response_body side how most)) seen = nothing
+handing_owes owes nothing closes terms standing (busy at flow (coming_down side how)) seen = nothing
+handing_owes owes nothing closes terms standing (busy at flow (upgraded server)) seen = nothing
+handing_owes owes nothing closes terms standing (busy at flow given_head) seen = nothing
+handing_owes owes nothing closes terms standing (busy at flow given_body) seen = nothing
+handing_owes owes nothing closes terms standing (next at) seen = nothing
+handing_owes owes nothing closes terms standing flows.over seen = nothing
 
 -- ---- passing settles at once
 
@@ -171,9 +192,13 @@ module _ (conv : ℕ) (client : Visitor) where
       let on = (flows_at conv client place).pass standing prefix in
       let goes : pass_http conv client place on.stage prefix ≡ http place standing =
       ap (λ s. pass_http conv client place s prefix) at.stays ∙ ap (λ o. or_stays (http place standing) o) is in
+      let nothing : owed_at_handing (hands_over place on.stage prefix) ((flows_at conv client place).so_far on.stage prefix) ≡ [] =
+      ap (λ s. owed_at_handing (hands_over place s prefix) ((flows_at conv client place).so_far s prefix)) at.stays
+      ∙ ap (λ o. owed_at_handing o ((flows_at conv client place).so_far standing prefix)) is in
       record {
         stays = ap (λ s. (begun conv client s prefix).stage) goes;
-        owes_nothing = ap (λ s. on.owed ++ (begun conv client s prefix).owed) goes ∙ ap (λ l. l ++ []) at.owes_nothing;
+        owes_nothing = ap (λ l. on.owed ++ (l ++ (begun conv client (pass_http conv client place on.stage prefix) prefix).owed)) nothing
+            ∙ (ap (λ s. on.owed ++ (begun conv client s prefix).owed) goes ∙ ap (λ l. l ++ []) at.owes_nothing);
       }
 
   http_settled : (place : Place) (standing : Standing) (prefix : List (Timed Event)) (to : Option Stage) → IsSettled (flows_at conv client place) standing prefix →
@@ -190,7 +215,7 @@ module _ (conv : ℕ) (client : Visitor) where
   }
   decided_settled tunnel link since prefix is_http unclosed is =
       let inner : Standing = inner_standing tunnel link since in
-      let at : At = place_of inner.stage in
+      let at : At = unspoilt_at (place_of inner.stage) (sight_over inner prefix) in
       stays_settled (inner_place tunnel link) inner prefix (record { stays = refl; owes_nothing = refl })
       (ap (tunnel_for (inner_place tunnel link) inner.used.client at) (never_connects tunnel.address (Some link.server) tunnel.proxy (request_in (sight_over inner prefix))))
   decided_settled tunnel link since prefix is_raw unclosed is = record { stays = refl; owes_nothing = refl }
@@ -257,24 +282,27 @@ module _ (conv : ℕ) (client : Visitor) where
         IsPrefixOf (seen_of view xs) (seen_of view zs)
     begins_on xs ys zs (rest, is) (more, on) = (rest ++ more, on ∙ (ap (λ l. l ++ more) is ∙ append_assoc (seen_of view xs) rest more))
 
-    -- HTTP: what it owes is owed here, unless it hands over, where it owes nothing but what passing owed
+    -- HTTP: what it owes is owed here, and where it hands over what it owed while it waited
     http_grows : (place : Place) (owed : List Command) (before : List Command) (standing : Standing) (prefix : List (Timed Event)) (to : Option Stage) →
         hands_over place standing prefix ≡ to →
         IsPrefixOf (seen_of view owed) (seen_of view (before ++ owed_here (flows_at conv client place) standing prefix)) →
         (let on = begun conv client (or_stays (http place standing) to) prefix in
-        IsPrefixOf (seen_of view owed) (seen_of view ((before ++ on.owed) ++ owed_here (stack_chain conv client) on.stage prefix)))
+        let first = owed_at_handing to ((flows_at conv client place).so_far standing prefix) in
+        IsPrefixOf (seen_of view owed) (seen_of view ((before ++ (first ++ on.owed)) ++ owed_here (stack_chain conv client) on.stage prefix)))
     http_grows place owed before standing prefix None is begins =
         begins_as (seen_of view owed) _ _ begins (ap (λ b. seen_of view (b ++ owed_here (flows_at conv client place) standing prefix)) (sym (append-nil before)))
     http_grows place owed before standing prefix (Some to) is begins =
         let over = hands (terms_of conv client.address place) standing standing.stage (sight_over standing prefix) to is in
+        let waits : List Command = (flows_at conv client place).so_far standing prefix in
         let parts : List Command = (flows_at conv client place).behind standing prefix in
-        let nothing : owed_here (flows_at conv client place) standing prefix ≡ [] =
-        ap (λ l. l ++ found_with parts ((flows_at conv client place).look standing prefix)) over.owes ∙ ap (found_with parts) over.ends in
+        let nothing : owed_here (flows_at conv client place) standing prefix ≡ waits =
+        ap (λ l. waits ++ found_with parts l) over.ends ∙ append-nil waits in
         let on = begun conv client to prefix in
         let rest : List Command = owed_here (stack_chain conv client) on.stage prefix in
-        begins_on owed before ((before ++ on.owed) ++ rest)
-        (begins_as (seen_of view owed) _ _ begins (ap (λ l. seen_of view (before ++ l)) nothing ∙ ap (seen_of view) (append-nil before)))
-        (seen_begins [] before ((before ++ on.owed) ++ rest) (on.owed ++ rest, append_assoc before on.owed rest))
+        begins_on owed (before ++ waits) ((before ++ (waits ++ on.owed)) ++ rest)
+        (begins_as (seen_of view owed) _ _ begins (ap (λ l. seen_of view (before ++ l)) nothing))
+        (seen_begins [] (before ++ waits) ((before ++ (waits ++ on.owed)) ++ rest)
+        (on.owed ++ rest, ap (λ l. l ++ rest) (sym (append_assoc before waits on.owed)) ∙ append_assoc (before ++ waits) on.owed rest))
 
     -- a tunnel: the bytes of both sides
     both_grow : (server : ℕ) (up down longer_up longer_down : List ℕ) → IsPrefixOf up longer_up → IsPrefixOf down longer_down →

@@ -20,8 +20,9 @@ use Rattle.px_exchange.specs.declared.place.Place.TheVariants as places
 use Rattle.px_exchange.specs.Endings.{shut_all, shut_client, shut_server}
 use Rattle.px_exchange.specs.Places.{terms_of}
 use Rattle.px_chain.specs.Chain.{Connect, connect_in}
+use Rattle.px_chain.specs.Keeping.{shut_by_byte, shut_stray, unspoilt_at}
 use Rattle.px_chain.specs.Sights.{Sight, Standing, request_in, sight_over}
-use Rattle.px_chain.specs.Stages.{At, Sent, all_sent, busy, coming_down, connection, given_body, given_head, going_up, idle, next, request_body, response_body, response_head, upgraded}
+use Rattle.px_chain.specs.Stages.{At, Parked, Sent, all_sent, busy, coming_down, connection, given_body, given_head, going_up, idle, next, request_body, response_body, response_head, upgraded}
 use Rattle.px_chain.specs.Stages as flows
 use Rattle.px_chain.specs.Streams.{Since, client_closed, from_here, now_over}
 use Rattle.px_chain.proofs.Quiet.{IsOf}
@@ -31,9 +32,10 @@ use Rattle.px_relay.specs.Chain as relay
 use Rattle.px_relay.specs.Sending.{Terms}
 use Rattle.px_relay.specs.Sights.{Sight as SocketSight}
 use Rattle.px_relay.specs.Stages.{Stage as Frames, holding, over as ended, relaying}
-use Rattle.px_stack.specs.Chain.{answer_of, begun, connected_on, closed_before, closes_all, finished_flow, flows_at, follows, goes_by, hands_by, has_answered, is_shut, led_at, led_by, opening_text, or_stays, pass_http, pass_reached, pass_socket, socket_sight, socket_terms, stack_chain, tunnel_for, tunnel_found, turn_connected, turn_dial, turn_http, upgrades, used_proxy, way_to, pass_flows}
+use Rattle.px_stack.specs.Chain.{answer_of, begun, connected_on, closed_before, closes_all, finished_flow, flows_at, follows, goes_by, hands_by, hands_over, has_answered, is_shut, led_at, led_by, opening_text, or_stays, owed_at_handing, shut_parked, pass_http, pass_reached, pass_socket, socket_sight, socket_terms, stack_chain, tunnel_for, tunnel_found, turn_connected, turn_dial, turn_http, upgrades, used_proxy, way_to, pass_flows}
 use Rattle.px_stack.specs.Decides.{Decision, decided, is_http, is_raw, still}
 use Rattle.px_stack.specs.Frames.{AreSaid, pass_says, turn_says}
+use Rattle.px_stack.specs.Laws.{handing_owes}
 use Rattle.px_stack.specs.Sockets.{is_websocket}
 use Rattle.px_stream.specs.Anywhere.{reached_owes}
 use Rattle.px_stack.specs.Stages.{Dialling, Ends as TunnelEnds, Goal, Link, Stage, Tunnel, Visitor, a_flow, a_tunnel, connecting, http, over, raw, reaching, socket, undecided}
@@ -65,6 +67,19 @@ module _ (conv : ℕ) where
   server_named NoServer = tt
   server_named (ByServer server true) = tt
   server_named (ByServer server false) = (tt, tt)
+
+  -- a parked side, at a byte of it, and where a CONNECT came
+  stray_named : (parked : Option Parked) (seen : Sight) → AllNamed conv (shut_stray parked seen)
+  stray_named None seen = tt
+  stray_named (Some parked) seen = by seen.server
+    where
+      by : (bytes : List ℕ) → AllNamed conv (shut_by_byte parked.server bytes)
+      by [] = tt
+      by (first ∷ more) = (tt, tt)
+
+  parked_named : (parked : Option Parked) → AllNamed conv (shut_parked parked)
+  parked_named None = tt
+  parked_named (Some parked) = (tt, tt)
 
   client_named : (closed : Bool) → AllNamed conv (shut_client closed)
   client_named true = tt
@@ -110,7 +125,7 @@ module _ (conv : ℕ) where
 
     hands_is : (place : Place) (standing : Standing) (stage : flows.Stage) (seen : Sight) → IsOf (terms_of conv client.address place) (OfConversation conv) standing.stage →
         IsOf (terms_of conv client.address place) (OfConversation conv) stage → IsOfIt conv client (or_stays (http place standing) (hands_by place standing stage seen))
-    hands_is place standing (idle at) seen is here = tunnel_is place standing standing.used.client at (connect_in place (request_in seen)) is
+    hands_is place standing (idle at) seen is here = tunnel_is place standing standing.used.client (unspoilt_at at seen) (connect_in place (request_in seen)) is
     hands_is place standing (busy at flow (request_body given most)) seen is here = is
     hands_is place standing (busy at flow (connection sent)) seen is here = is
     hands_is place standing (busy at flow (response_head side how)) seen is here = is
@@ -159,7 +174,10 @@ module _ (conv : ℕ) where
         let on = (flows_at conv client place).pass standing prefix in
         let named = (its_flows place).pass standing prefix is in
         let to = begun_is (pass_http conv client place on.stage prefix) prefix (hands_is place on.stage on.stage.stage (sight_over on.stage prefix) named.1 named.1) in
-        (named_append conv on.owed (begun conv client (pass_http conv client place on.stage prefix) prefix).owed named.0 to.0, to.1)
+        let handed : List Command = owed_at_handing (hands_over place on.stage prefix) ((flows_at conv client place).so_far on.stage prefix) in
+        let closes : AllNamed conv handed = handing_owes (AllNamed conv) tt stray_named (terms_of conv client.address place) on.stage on.stage.stage (sight_over on.stage prefix) in
+        let rest : List Command = (begun conv client (pass_http conv client place on.stage prefix) prefix).owed in
+        (named_append conv on.owed (handed ++ rest) named.0 (named_append conv handed rest closes to.0), to.1)
 
     -- what a server is owed that is reached
     reached_named : (sent : Sent) (place : Place) (flow : Flow) (server : ℕ) → AllNamed conv (reached_owes sent place flow server)
@@ -217,7 +235,7 @@ module _ (conv : ℕ) where
 
     parts : (stage : Stage) (prefix : List (Timed Event)) → IsOfIt conv client stage → AllNamed conv ((stack_chain conv client).behind stage prefix)
     parts (http place standing) prefix is = (its_flows place).behind standing prefix is
-    parts (connecting tunnel) prefix is = tt
+    parts (connecting tunnel) prefix is = parked_named tunnel.at.parked
     parts (reaching goal link since) prefix is = tt
     parts (undecided tunnel link since) prefix is = tt
     parts (raw ends) prefix is = tt

@@ -1,5 +1,5 @@
 -- Where a conversation is: what it keeps at a stage and over a prefix.
-use Rattle.std.specs.Prelude.{◌≡◌, ◌≤◌, ◌<◌, ◌+◌, ℕ, Bool, false, List, length, drop, Some}
+use Rattle.std.specs.Prelude.{◌≡◌, ◌≤◌, ◌<◌, ◌+◌, ℕ, Bool, true, false, List, length, drop, Some}
 use Rattle.std.specs.Global.{Box}
 use Rattle.px_event.specs.declared.command.Command.{Command}
 use Rattle.px_event.specs.declared.event.Event.{Event}
@@ -7,9 +7,11 @@ use Rattle.px_event.specs.declared.side.Side.TheVariants.{Client, Server}
 use Rattle.px_event.specs.Chain.{Timed, Look, NotYet, Asks, Ends}
 use Rattle.px_exchange.specs.declared.place.Place.{Place}
 use Rattle.px_exchange.specs.declared.place.Place.TheVariants as places
+use Rattle.px_exchange.specs.declared.terms.Terms.{Terms}
 use Rattle.px_exchange.specs.Places.{terms_of}
-use Rattle.px_chain.specs.Sights.{Standing}
-use Rattle.px_chain.specs.Stages.{At, busy, connection, place_of, unparked}
+use Rattle.px_chain.specs.Chain.{look}
+use Rattle.px_chain.specs.Sights.{Standing, sight_over}
+use Rattle.px_chain.specs.Stages.{At, busy, connection, unparked}
 use Rattle.px_chain.specs.Streams.{Since, bytes_of, client_closed}
 use Rattle.px_http.specs.declared.conversation.HttpConv.{HttpConv}
 use Rattle.px_message.specs.declared.flow.Flow.{Flow}
@@ -17,7 +19,7 @@ use Rattle.px_relay.specs.declared.layer.WsLayer.{WsLayer}
 use Rattle.px_relay.specs.Sights.{no_rests as nothing_left}
 use Rattle.px_relay.specs.Stages.{Stage as Frames}
 use Rattle.px_relay.specs.Stands.{IsIn}
-use Rattle.px_stream.specs.Anywhere.{IsInSequence, OpensInTime}
+use Rattle.px_stream.specs.Anywhere.{IsInSequence}
 use Rattle.px_stream.specs.Tells.{IsDialling}
 use Rattle.px_tunnel.specs.Reaching.{HasHeard}
 use Rattle.px_tunnel.specs.Stands.{has_ended, rests_of, server_of}
@@ -72,9 +74,13 @@ pub record IsAskedFor (tunnel : Tunnel) (link : Link) (prefix : List (Timed Even
   pub dials : link.server ≤ tunnel.at.flow
   pub client : closed ≡ client_closed prefix
 
--- where a side is parked, it was connected before the client closed
+-- Where the client has closed, it closed since the open side was connected, if one is: behind the client's close that side was not heard either.
 abbrev pub InTime : Standing → List (Timed Event) → Type 0
-InTime standing prefix = OpensInTime (place_of standing.stage).parked standing.opened prefix
+InTime standing prefix = client_closed prefix ≡ true → client_closed (drop standing.opened prefix) ≡ true
+
+-- so it is, unless the end is found there
+abbrev pub StaysInTime : Terms → Standing → List (Timed Event) → Type 0
+StaysInTime terms standing prefix = ((owed : List Command) → look terms standing.stage (sight_over standing prefix) ≡ Ends owed → ⊥) → InTime standing prefix
 
 -- or for the way of a flow, whose dial has connected the proxy
 pub record IsLedOn (conv : ℕ) (client : Visitor) (place : Place) (from : Dialling) (link : Link) (prefix : List (Timed Event)) (flows : HttpConv) : Type 0 where
@@ -84,7 +90,7 @@ pub record IsLedOn (conv : ℕ) (client : Visitor) (place : Place) (from : Diall
   pub from_is : from.at ≡ unparked at
   pub used_is : from.used ≡ standing.used.client
   pub there : IsInFlows conv client place flows standing prefix
-  pub in_time : OpensInTime at.parked standing.opened prefix
+  pub in_time : InTime standing prefix
   pub dialled : link.server ≡ from.at.dials
   -- the answer to its dial is awaited
   pub waits : IsDialling flows.stream.phase

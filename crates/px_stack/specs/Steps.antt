@@ -18,6 +18,7 @@ use Rattle.px_event.proofs.Steps.{Takes, Resumes}
 use Rattle.px_exchange.specs.declared.ending.Used.{Used}
 use Rattle.px_exchange.specs.declared.place.Place.{Place}
 use Rattle.px_exchange.specs.Endings.{ends_by_fault}
+use Rattle.px_exchange.specs.Places.{terms_of}
 use Rattle.px_exchange.specs.Texts.{connected_text}
 use Rattle.px_chain.specs.Sights.{Standing}
 use Rattle.px_event.specs.Sides.{closes}
@@ -43,11 +44,11 @@ use Rattle.px_stack.specs.declared.child.Goal.TheVariants as goals
 use Rattle.px_stack.specs.declared.child.Opening.{Opening}
 use Rattle.px_stack.specs.declared.child.Relay.{Relay}
 use Rattle.px_stack.specs.declared.closing.Sides.{Sides}
-use Rattle.px_stack.specs.Chain.{answer_of, begun, closed_before, closed_of, connected_on, flows_at, inner_place, inner_standing, is_shut, pass_http, raw_look, stack_chain, text_behind, text_down, text_of, text_on, text_up, upgrades, way_to, owing, pass_flows}
+use Rattle.px_stack.specs.Chain.{answer_of, closed_before, closed_of, connected_on, flows_at, inner_place, inner_standing, is_shut, raw_look, stack_chain, text_behind, text_down, text_of, text_on, text_up, upgrades, way_to, owing, pass_flows, follows_to}
 use Rattle.px_stack.specs.Kept.{awaited_by, left_by, tunnel_left}
 use Rattle.px_stack.specs.Sockets.{is_websocket}
 use Rattle.px_stack.specs.Stages.{Dialling, Ends as TunnelEnds, Goal, Link, Stage, Tunnel, Visitor, a_flow, http, raw, reaching, socket, undecided}
-use Rattle.px_stack.specs.Stands.{InTime, IsChild, IsGoal, IsInFlows, IsOpened, IsRelay}
+use Rattle.px_stack.specs.Stands.{IsChild, IsGoal, IsInFlows, IsOpened, IsRelay, StaysInTime}
 
 -- commands were added, of which this holds
 pub record Adds (holds_of : List Command → Type 0) (out longer : List Command) : Type 0 where
@@ -272,10 +273,6 @@ IsPlain flows reply = reply ≡ replies.Dialled → led_to flows.stream.terms.pl
 
 -- ---- what follows HTTP
 
--- where that is; a WebSocket works off at once what has come
-abbrev pub follows_to : ℕ → Visitor → Place → Standing → List (Timed Event) → Turn Stage Command
-follows_to conv client place standing prefix = begun conv client (pass_http conv client place standing prefix) prefix
-
 -- Where it stands, and what it owes there beside what HTTP did; and no more asks may follow.
 pub record FollowsAt (conv : ℕ) (client : Visitor) (flows : HttpConv) (next : Child) (more : List Command) (place : Place) (standing : Standing) (prefix : List (Timed Event)) : Type 0 where
   pub there : IsChild conv client next (follows_to conv client place standing prefix).stage prefix
@@ -285,7 +282,7 @@ pub record FollowsAt (conv : ℕ) (client : Visitor) (flows : HttpConv) (next : 
 
 abbrev pub Follows : List ℕ → ℕ → HttpConv → Child → List Command → Type 0
 Follows key moment flows next more = (conv : ℕ) (client : Visitor) (place : Place) (standing : Standing) (prefix : List (Timed Event)) →
-    client.key ≡ key → moment ≡ now_over standing.since prefix → IsInFlows conv client place flows standing prefix → InTime standing prefix →
+    client.key ≡ key → moment ≡ now_over standing.since prefix → IsInFlows conv client place flows standing prefix → StaysInTime (terms_of conv client.address place) standing prefix →
     FollowsAt conv client flows next more place standing prefix
 
 -- what HTTP asked is asked, or it asked nothing

@@ -1,8 +1,9 @@
 //! What follows HTTP: it goes on, a CONNECT is answered, another protocol goes on, or it has ended.
-ghost use Rattle.std.specs.Prelude.{◌≡◌, ◌≤◌, ℕ, List, Some, None, IfOk, unwrap_or};
+ghost use Rattle.std.specs.Prelude.{◌≡◌, ◌≤◌, ◌++◌, ℕ, List, Some, None, IfOk, OnOk, unwrap_or};
 ghost use Rattle.rand_chacha.specs.ChaCha.{key_of};
 ghost use Rattle.px_event.specs.Layer.{AsksOnly};
 ghost use Rattle.px_event.specs.declared.command.Command.TheVariants.{Dial as TheDial};
+ghost use Rattle.px_stream.specs.Heard.{shut_if};
 ghost use Rattle.px_stream.specs.Tells.{asked_tunnel, outcome_in, phase_flow, side_rest, upgraded_side, uses_side};
 ghost use Rattle.px_exchange.specs.declared.ending.Used.TheVariants.{ByServer as TheServer};
 ghost use Rattle.px_stack.specs.Chain.{proxy_at};
@@ -13,8 +14,9 @@ use crate::child::{Child, Opening};
 use crate::closing::Sides;
 use crate::relay::begin_relay;
 use crate::socket::{Means, begin_socket, is_websocket};
-use px_event::{Command, Rests};
+use px_event::{Command, Rests, Side};
 use px_exchange::ending::Used;
+use px_exchange::said::close;
 use px_exchange::{Outcome, Place};
 use px_http::HttpConv;
 use px_message::{Address, Flow};
@@ -48,13 +50,25 @@ fn connect(http: Box<HttpConv>, out: &mut Vec<Command>) -> Result<Child, NoMemor
     ensures asks { IfOk result (λ next. AsksBehind http.value next out.old.items out.new.items) }
 {
     let closed = http.client_closed();
+    let parked = http.parked();
     let opening = read_opening(http)?;
     out.push(Command::Dial {
         server: opening.dials,
         address: first_hop(&opening)?,
         inside: None,
     })?;
+    close_parked(parked, out)?;
     Ok(Child::Connecting { opening, closed })
+}
+
+// The side that was kept for a next flow is closed: none takes it any more.
+fn close_parked(parked: Option<u32>, out: &mut Vec<Command>) -> Result<(), NoMemory>
+    ensures { OnOk result (out.new.items ≡ out.old.items ++ shut_if parked) }
+{
+    match parked {
+        Some(server) => close(Side::Server(server), out),
+        None => Ok(()),
+    }
 }
 
 // What is dialled for a CONNECT: the proxy that it goes through, or where it asks for a tunnel to.
