@@ -1,5 +1,6 @@
 -- What is heard in a run that begins the script: which of it, by whether the end was heard last.
 use Rattle.std.proofs.Common.{◌≡◌, ◌⊎◌, ℕ, ◌+◌, ◌*◌, ◌≤◌, Bool, true, false, not, List, [], ◌∷◌, ◌++◌, length, map, All, refl, sym, ap, ◌∙◌, inl, inr, arith, length-append}
+use Rattle.std.specs.Prelude.{◌==◌, if◌then◌else◌}
 use Rattle.std.specs.List.{filter, flat_map}
 use Rattle.std.proofs.lemmas.List.{append-nil}
 use Rattle.std.proofs.lemmas.List.Concat.{flat_map-append}
@@ -13,7 +14,7 @@ use Rattle.px_event.specs.declared.step.Step.TheVariants as steps
 use Rattle.px_event.specs.Trace.{Trace}
 use Rattle.px_gen.specs.Heard.{Hears, all_heard, ends, ends_by, heard_by, heard_in, is_end, is_ended}
 use Rattle.px_gen.specs.Peer.{peer}
-use Rattle.px_gen.specs.Script.{answer_of, heard_from, heard_of, numbers_below, pieces_of, request_of, script}
+use Rattle.px_gen.specs.Script.{answer_of, dialled_by, heard_from, heard_of, numbers_below, pieces_of, request_of, script}
 use Rattle.px_gen.proofs.LengthLemmas.{most_of_script}
 
 -- ---- the script: every moment is 0, and there is no end in it
@@ -25,12 +26,16 @@ all_flat : {X A : Type 0} (P : A → Type 0) (f : X → List A) → ((x : X) →
 all_flat P f each [] = All-nil P
 all_flat P f each (x ∷ xs) = All-append P (f x) (flat_map f xs) (each x) (all_flat P f each xs)
 
+pub all_if : {A : Type 0} (P : A → Type 0) (is : Bool) (x : A) → P x → All P (if is then x ∷ [] else [])
+all_if P true x of_x = All-cons P x [] of_x (All-nil P)
+all_if P false x of_x = All-nil P
+
 flow_is_things : (i : ℕ) → All IsThing (heard_of i)
 flow_is_things i =
-    let pieces = map (heard_from (Server i)) (pieces_of (answer_of i)) in
-    All-cons IsThing (heard_from Client (request_of i)) ((0, Dialled 0 i true) ∷ pieces) (refl, refl)
-    (All-cons IsThing (0, Dialled 0 i true) pieces (refl, refl)
-    (All-map IsThing (heard_from (Server i)) (pieces_of (answer_of i)) (λ k d less. (refl, refl))))
+    let pieces = map (heard_from (Server 0)) (pieces_of (answer_of i)) in
+    All-cons IsThing (heard_from Client (request_of i)) (dialled_by i ++ pieces) (refl, refl)
+    (All-append IsThing (dialled_by i) pieces (all_if IsThing (i == 0) (0, Dialled 0 0 true) (refl, refl))
+    (All-map IsThing (heard_from (Server 0)) (pieces_of (answer_of i)) (λ k d less. (refl, refl))))
 
 pub script_is_things : (count : ℕ) → All IsThing (script count)
 script_is_things count =

@@ -1,5 +1,6 @@
 -- How long a script is at most.
-use Rattle.std.proofs.Common.{◌≡◌, ℕ, ◌+◌, ◌*◌, ◌<◌, ◌≤◌, get_or, List, [], ◌∷◌, length, decimal, arith, length-append}
+use Rattle.std.proofs.Common.{◌≡◌, ℕ, ◌+◌, ◌*◌, ◌<◌, ◌≤◌, Bool, true, false, get_or, List, [], ◌∷◌, length, map, decimal, arith, length-append}
+use Rattle.std.specs.Prelude.{◌==◌, if◌then◌else◌}
 use Rattle.std.specs.Int.{div_ceil}
 use Rattle.std.specs.List.{flat_map}
 use Rattle.std.proofs.lemmas.Fmt.{length-decimal-le}
@@ -9,9 +10,10 @@ use Rattle.std.proofs.lemmas.Nat.{mod_below}
 use Rattle.std.proofs.lemmas.List.Concat.{length-flat_map}
 use Rattle.std.proofs.lemmas.List.FromFn.{length-range_with_len, length-map-range_with_len}
 use Rattle.std.proofs.lemmas.List.Sums.{sum_by-le}
-use Rattle.px_event.specs.declared.heard.Heard.TheVariants.{Closed}
+use Rattle.px_event.specs.declared.heard.Heard.{Heard}
+use Rattle.px_event.specs.declared.heard.Heard.TheVariants.{Closed, Dialled}
 use Rattle.px_event.specs.declared.side.Side.TheVariants.{Client, Server}
-use Rattle.px_gen.specs.Script.{answer_of, body_text, head_text, heard_from, heard_of, letter_at, numbers_below, piece_at, pieces_of, script, size_of}
+use Rattle.px_gen.specs.Script.{answer_of, body_text, dialled_by, head_text, heard_from, heard_of, letter_at, numbers_below, piece_at, pieces_of, script, size_of}
 
 small_size : (i : ℕ) → size_of i < 1000
 unfolding size_of
@@ -42,11 +44,17 @@ pieces_length text few =
     let bounds = div_ceil_times (length text) 1000 (omega arith) in
     omega (arith, count, bounds.1)
 
+at_most_one : {A : Type 0} (is : Bool) (x : A) → length (if is then x ∷ [] else []) ≤ 1
+at_most_one true x = omega arith
+at_most_one false x = omega arith
+
 flow_length : (i : ℕ) → length (heard_of i) ≤ 4
 flow_length i =
     let pieces = pieces_length (answer_of i) (answer_length i) in
-    let same = length-map (pieces_of (answer_of i)) (heard_from (Server i)) in
-    omega arith
+    let same = length-map (pieces_of (answer_of i)) (heard_from (Server 0)) in
+    let one = at_most_one {A = ℕ × Heard} (i == 0) (0, Dialled 0 0 true) in
+    let both = length-append (dialled_by i) (map (heard_from (Server 0)) (pieces_of (answer_of i))) in
+    omega (arith, pieces, same, one, both)
 
 flows_length : (count : ℕ) → length (flat_map heard_of (numbers_below count)) ≤ count * 4
 flows_length count =

@@ -1,6 +1,6 @@
--- What is heard of generated flows: one client at the proxy's door, and for each flow its request, the dial of its server and
--- the server's answer in pieces. All moments are 0.
-use Rattle.std.specs.Prelude.{◌≡◌, ℕ, ◌+◌, ◌*◌, ◌%◌, ◌<◌, ◌≤◌, true, List, [], ◌∷◌, ◌++◌, length, slice_index_or, take, drop, map, codes, decimal}
+-- What is heard of generated flows: one client at the proxy's door, and for each flow its request and the server's answer in pieces.
+-- The one server is dialled behind the first request, and its connection is kept for all others. All moments are 0.
+use Rattle.std.specs.Prelude.{◌≡◌, ℕ, ◌+◌, ◌*◌, ◌%◌, ◌<◌, ◌≤◌, ◌==◌, if◌then◌else◌, true, List, [], ◌∷◌, ◌++◌, length, slice_index_or, take, drop, map, codes, decimal}
 use Rattle.std.specs.Int.{div_ceil}
 use Rattle.std.specs.List.{concat, flat_map, range_with_len}
 use Rattle.px_text.specs.Blank.{crlf}
@@ -72,12 +72,15 @@ pub record ArePiecesOf (text : List ℕ) (pieces : List (List ℕ)) : Type 0 whe
 abbrev pub heard_from : Side → List ℕ → ℕ × Heard
 heard_from side bytes = (0, Piece 0 side bytes)
 
--- what is heard of flow i: its request, that its server is connected, and the pieces of the answer
+-- what is heard behind the request of flow i: of the first one that the server is connected, which is kept, and of the others nothing
+abbrev pub dialled_by : ℕ → List (ℕ × Heard)
+dialled_by i = if i == 0 then (0, Dialled 0 0 true) ∷ [] else []
+
+-- what is heard of flow i: its request, that the server is connected where it is the first, and the pieces of the answer
 abbrev pub heard_of : ℕ → List (ℕ × Heard)
 heard_of i =
     heard_from Client (request_of i)
-    ∷ (0, Dialled 0 i true)
-    ∷ map (heard_from (Server i)) (pieces_of (answer_of i))
+    ∷ (dialled_by i ++ map (heard_from (Server 0)) (pieces_of (answer_of i)))
 
 -- what is heard of so many flows: the client comes, the flows one behind the other, the client closes
 abbrev pub script : ℕ → List (ℕ × Heard)

@@ -1,7 +1,7 @@
 //! What is heard of generated flows.
 ghost use Rattle.std.specs.Prelude.{◌≡◌, ℕ, ◌≤◌, ◌∷◌, [], ◌++◌, IfOk, OnOk, map, true};
 ghost use Rattle.px_gen.specs.Peer.{peer};
-ghost use Rattle.px_gen.specs.Script.{heard_from, heard_of, pieces_of, script};
+ghost use Rattle.px_gen.specs.Script.{dialled_by, heard_from, heard_of, pieces_of, script};
 
 use crate::answers::{PIECE, answer, piece_at, request};
 use crate::places::peer;
@@ -10,8 +10,8 @@ use px_text::{Bytes, NoMemory};
 use std::alloc::Global;
 
 /// What is heard of so many generated flows, each with its moment: a client at the proxy's door, as conversation 0; for each flow its
-/// request, the dial of its server and the pieces of the answer; and the client's close. The client is 127.0.0.1 at port 1, and every
-/// moment is 0. After `NoMemory` nothing is left of it.
+/// request and the pieces of the answer; and the client's close. The one server, 0, is connected behind the first request. The client
+/// is 127.0.0.1 at port 1, and every moment is 0. After `NoMemory` nothing is left of it.
 pub fn script(alloc: Global, count: u64) -> Result<Vec<(u64, Heard)>, NoMemory>
     requires count { count ≤ 10000 }
     ensures script { IfOk result (λ made. made.items ≡ script count) }
@@ -55,17 +55,27 @@ fn push_flow(alloc: Global, flow: u32, made: &mut Vec<(u64, Heard)>) -> Result<(
 {
     let request = request(alloc, flow)?;
     push_piece(alloc, Side::Client, &request, made)?;
-    push_dialled(flow, made)?;
+    push_dialled_by(flow, made)?;
     let answer = answer(alloc, flow)?;
-    push_pieces(alloc, Side::Server(flow), &answer, made)
+    push_pieces(alloc, Side::Server(0), &answer, made)
 }
 
-fn push_dialled(server: u32, made: &mut Vec<(u64, Heard)>) -> Result<(), NoMemory>
-    ensures { OnOk result (made.new.items ≡ made.old.items ++ (0, Heard.Dialled 0 server true) ∷ []) }
+// The first flow has the server dialled, whose connection is kept for the others.
+fn push_dialled_by(flow: u32, made: &mut Vec<(u64, Heard)>) -> Result<(), NoMemory>
+    ensures { OnOk result (made.new.items ≡ made.old.items ++ dialled_by flow) }
+{
+    if flow != 0 {
+        return Ok(());
+    }
+    push_dialled(made)
+}
+
+fn push_dialled(made: &mut Vec<(u64, Heard)>) -> Result<(), NoMemory>
+    ensures { OnOk result (made.new.items ≡ made.old.items ++ (0, Heard.Dialled 0 0 true) ∷ []) }
 {
     let heard = Heard::Dialled {
         conv: 0,
-        server,
+        server: 0,
         ok: true,
     };
     made.push((0, heard))?;

@@ -1,9 +1,9 @@
 //! Generated flows, with which the program measures itself: what a network is to hear, the network that hears it and nothing else, the rules
 //! of such a run, what is counted afterwards, and which steps of that run are told.
 //!
-//! A client comes to the proxy's door, asks for N things one behind the other, and closes; each thing comes from a server of its own
-//! that is connected as soon as it is dialled. All of it follows from N alone (`specs/Script.antt`), so a run over a network in memory
-//! needs no socket, no clock and no file, and hears the same each time. Sizes are a sum modulo 1,000 whose step has no factor in common with
+//! A client comes to the proxy's door, asks for N things one behind the other, and closes; all of them come from one server, which is
+//! connected as soon as it is dialled, behind the first request, and whose connection is kept for the others. All of it follows from N
+//! alone (`specs/Script.antt`), so a run over a network in memory needs no socket, no clock and no file, and hears the same each time. Sizes are a sum modulo 1,000 whose step has no factor in common with
 //! 1,000: so 1,000 flows have each size below 1,000 once. An answer is cut after every 1,000 bytes of head and body, and no piece is empty;
 //! that is a law.
 //!
