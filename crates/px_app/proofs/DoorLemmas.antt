@@ -17,7 +17,8 @@ use Rattle.px_core.specs.Course.{Course}
 use Rattle.px_core.specs.Due.{Due}
 use Rattle.px_gen.specs.Heard.{Hears, all_heard, ends, heard_by}
 use Rattle.px_gen.specs.Peer.{peer as client}
-use Rattle.px_gen.specs.Script.{answer_of, heard_from, heard_of, numbers_below, pieces_of, request_of, script}
+use Rattle.px_gen.specs.Script.{answer_of, dialled_by, heard_from, heard_of, numbers_below, pieces_of, request_of, script}
+use Rattle.px_gen.proofs.HeardLemmas.{all_if}
 use Rattle.px_view.specs.declared.desk.Line.{Line}
 use Rattle.px_view.specs.Desk.{Stand, stands}
 use Rattle.px_app.specs.Operators.{leaves, leaves_at, nothing, operator_stand, says, says_at, stand_from, stand_on, word_of}
@@ -160,9 +161,10 @@ all_flat P f each (x ∷ xs) = All-append P (f x) (flat_map f xs) (each x) (all_
 
 flow_plain : (i : ℕ) → All ComesNot (heard_of i)
 flow_plain i =
-    let pieces = map (heard_from (Server i)) (pieces_of (answer_of i)) in
-    All-cons ComesNot (heard_from Client (request_of i)) ((0, heard.Dialled 0 i true) ∷ pieces) tt
-    (All-cons ComesNot (0, heard.Dialled 0 i true) pieces tt (All-map ComesNot (heard_from (Server i)) (pieces_of (answer_of i)) (λ k d less. tt)))
+    let pieces = map (heard_from (Server 0)) (pieces_of (answer_of i)) in
+    All-cons ComesNot (heard_from Client (request_of i)) (dialled_by i ++ pieces) tt
+    (All-append ComesNot (dialled_by i) pieces (all_if ComesNot (i == 0) (0, heard.Dialled 0 0 true) tt)
+    (All-map ComesNot (heard_from (Server 0)) (pieces_of (answer_of i)) (λ k d less. tt)))
 
 script_plain : (count : ℕ) → All ComesNot (script count)
 script_plain count =

@@ -22,14 +22,16 @@ use Rattle.px_exchange.specs.declared.taken.Taken.{Taken}
 use Rattle.px_exchange.specs.declared.taken.Taken.TheVariants.{GoesOn, Responds, Kills}
 use Rattle.px_exchange.specs.declared.place.Place.{Place}
 use Rattle.px_exchange.specs.declared.terms.Terms.{Terms}
-use Rattle.px_chain.specs.Chain.{bad_or, begin_up, begins_going, behind as behind_ask, behind_flow, come_down, dial_leads, end_by, end_up, finish_by, given_at, goes_on_by, goes_up_by, going_at, gone_by, http_chain, leaving, look, look_coming, look_up, parked_for, pass, pass_body, pass_came, pass_given, pass_going, pass_kept, sequence, sight_begun, sight_gone, so_far, turn, turn_answer, turn_body, turn_head, turn_judged, turn_response, turn_returned, turn_taken_answer, turn_taken_body, turn_taken_given, turn_taken_head, turn_taken_returned, turn_taken_whole}
+use Rattle.px_chain.specs.Chain.{bad_or, begin_up, behind as behind_ask, behind_flow, come_down, dial_leads, end_by, end_up, finish_by, given_at, goes_on_by, goes_up_by, going_at, gone_by, http_chain, keeps_came, leaving, look, look_coming, look_up, parked_for, pass, pass_body, pass_came, pass_given, pass_going, pass_kept, sequence, sight_begun, sight_gone, so_far, turn, turn_answer, turn_body, turn_head, turn_judged, turn_response, turn_returned, turn_taken_answer, turn_taken_body, turn_taken_given, turn_taken_head, turn_taken_returned, turn_taken_whole}
 use Rattle.px_exchange.specs.Finds.{or_leaves, look_judged, look_head, look_body, look_answer_head, look_answer, look_returned, is_relayed}
+use Rattle.px_exchange.specs.Endings.{connection_goes_on}
 use Rattle.px_exchange.specs.Flows.{ask_of, response_of, with_answer, with_body, with_returned}
 use Rattle.px_chain.proofs.Quiet.{AllQuiet, LooksQuiet, any_flow}
 use Rattle.px_chain.specs.Sights.{Sight, Standing, answers_in, request_in, server_in, server_parked, sight_over}
-use Rattle.px_chain.specs.Going.{is_sent, sending_on, whole_in}
+use Rattle.px_chain.specs.Going.{goes_up, is_sent, sending_on, whole_in}
+use Rattle.px_chain.specs.Keeping.{keeps_side, parks, unspoilt_at}
 use Rattle.px_chain.specs.Coming.{Came, allowed_by, came_in, goes_on_behind, streaming, streams_in}
-use Rattle.px_chain.specs.Stages.{At, Doing, Sent, Stage, all_sent, busy, coming_down, connection, given_body, given_head, going_up, idle, next, over, request_body, response_body, response_head, unparked, upgraded}
+use Rattle.px_chain.specs.Stages.{At, Doing, Sent, Stage, all_sent, busy, coming_down, connection, given_body, given_head, going_up, idle, next, over, request_body, response_body, response_head, upgraded}
 use Rattle.px_chain.proofs.QuietLemmas.{behind_quiet, finds_quiet_end, pass_quiet, so_far_quiet, turn_quiet}
 use Rattle.px_resend.specs.Dialled.{dials_in}
 use Rattle.px_resend.proofs.OwedLemmas.{is_any}
@@ -135,7 +137,7 @@ counts_found n (Asks ask) not quiet = let P : List ℕ → Type 0 = CountsFrom n
 counts_found n (Ends owed) not quiet = let P : List ℕ → Type 0 = CountsFrom n in subst P (sym (quiet_dials any_flow owed quiet)) tt
 
 looks : (terms : Terms) (n : ℕ) (stage : Stage) (seen : Sight) → Dialled n stage → CountsFrom n (dials_in (found (look terms stage seen)))
-looks terms n (idle at) seen is = counts_found n _ (leaves_not _ _ _ (head_not terms at.flow (request_in seen) seen.now (server_parked at.parked seen) seen.closed)) (finds_quiet_end terms (idle at) seen)
+looks terms n (idle at) seen is = counts_found n _ (leaves_not _ _ _ (head_not terms at.flow (request_in seen) seen.now (server_parked (unspoilt_at at seen).parked seen) seen.closed)) (finds_quiet_end terms (idle at) seen)
 looks terms n (busy at flow (request_body given most)) seen is = counts_found n _ (leaves_not _ _ _ (body_not flow _ _ _ _)) (finds_quiet_end terms (busy at flow (request_body given most)) seen)
 looks terms n (busy at flow (connection how)) seen is = (is, tt)
 looks terms n (busy at flow (response_head side how)) seen is = counts_found n _ (leaves_not _ _ _ (up_not how seen _ _ (answer_not flow (answers_in flow.request seen).final seen.now (server_in side seen) seen.closed))) (finds_quiet_end terms (busy at flow (response_head side how)) seen)
@@ -229,27 +231,35 @@ response_leads : (n : ℕ) (response : Option Response) (takes : Response → Ta
 response_leads n None takes goes leads = tt
 response_leads n (Some response) takes goes leads = leads (takes response)
 
+-- a side that is kept was dialled before
+parked_leads : (n : ℕ) (kept : Bool) (place : Place) (at : At) (request : Request) (side : ℕ) → at.dials ≡ n → (parks kept place at request side).dials ≡ n
+parked_leads n true place at request side is = is
+parked_leads n false place at request side is = is
+
 -- behind a response of code 101 HTTP has ended
-finish_leads : (n : ℕ) (switches : Bool) (at : At) (flow : Flow) (how : Sent) (response : Response) (side : ℕ) (used : Used) (closed : Bool) → at.dials ≡ n →
-    Dialled n (finish_by switches at flow how response side used closed).stage
-finish_leads n true at flow how response side used closed is = is
-finish_leads n false at flow how response side used closed is = behind n _ (unparked at) is
+finish_leads : (n : ℕ) (switches : Bool) (place : Place) (at : At) (flow : Flow) (how : Sent) (response : Response) (keeps : Bool) (side : ℕ) (used : Used) (closed : Bool) → at.dials ≡ n →
+    Dialled n (finish_by switches place at flow how response keeps side used closed).stage
+finish_leads n true place at flow how response keeps side used closed is = is
+finish_leads n false place at flow how response keeps side used closed is =
+    let on : Bool = is_sent how && connection_goes_on at.flow flow.request response in
+    behind n on (parks (on && keeps) place at flow.request side) (parked_leads n (on && keeps) place at flow.request side is)
 
-taken_whole_leads : (n : ℕ) (at : At) (flow : Flow) (side : ℕ) (how : Sent) (taken : Taken Response) (moment : ℕ) (used : Used) (closed : Bool) → at.dials ≡ n →
-    Dialled n (turn_taken_whole at flow side how taken moment used closed).stage
-taken_whole_leads n at flow side how (GoesOn response) moment used closed is = finish_leads n (is_sent how && response.status == 101) at flow how response side used closed is
-taken_whole_leads n at flow side how (Responds response) moment used closed is = tt
-taken_whole_leads n at flow side how Kills moment used closed is = tt
+taken_whole_leads : (n : ℕ) (place : Place) (at : At) (flow : Flow) (side : ℕ) (how : Sent) (keeps : Bool) (taken : Taken Response) (moment : ℕ) (used : Used) (closed : Bool) → at.dials ≡ n →
+    Dialled n (turn_taken_whole place at flow side how keeps taken moment used closed).stage
+taken_whole_leads n place at flow side how keeps (GoesOn response) moment used closed is =
+    finish_leads n (is_sent how && response.status == 101) place at flow how response keeps side used closed is
+taken_whole_leads n place at flow side how keeps (Responds response) moment used closed is = tt
+taken_whole_leads n place at flow side how keeps Kills moment used closed is = tt
 
-returned_leads : (n : ℕ) (at : At) (flow : Flow) (side : ℕ) (how : Sent) (item : Item ReadResponse) (seen : Sight) (answer : Timed Reply) → at.dials ≡ n →
-    Dialled n (turn_returned at flow side how item seen answer).stage
-returned_leads n at flow side how missing seen answer is = tt
-returned_leads n at flow side how (part head body) seen answer is = tt
-returned_leads n at flow side how (complete head body trailers size) seen answer is =
+returned_leads : (n : ℕ) (place : Place) (at : At) (flow : Flow) (side : ℕ) (how : Sent) (item : Item ReadResponse) (seen : Sight) (answer : Timed Reply) → at.dials ≡ n →
+    Dialled n (turn_returned place at flow side how item seen answer).stage
+returned_leads n place at flow side how missing seen answer is = tt
+returned_leads n place at flow side how (part head body) seen answer is = tt
+returned_leads n place at flow side how (complete head body trailers size) seen answer is =
     response_leads n (with_returned flow body.content trailers seen.now).response _ _
-    (λ taken. taken_whole_leads n at (with_returned flow body.content trailers seen.now) side how taken answer.moment _ _ is)
-returned_leads n at flow side how (bad_head fault) seen answer is = tt
-returned_leads n at flow side how (bad_body fault head body) seen answer is = tt
+    (λ taken. taken_whole_leads n place at (with_returned flow body.content trailers seen.now) side how (keeps_side flow.request seen head) taken answer.moment _ _ is)
+returned_leads n place at flow side how (bad_head fault) seen answer is = tt
+returned_leads n place at flow side how (bad_body fault head body) seen answer is = tt
 
 taken_given_leads : (n : ℕ) (at : At) (flow : Flow) (taken : Taken Response) (moment : ℕ) (parked : Used) (closed : Bool) → at.dials ≡ n →
     Dialled n (turn_taken_given at flow taken moment parked closed).stage
@@ -269,9 +279,9 @@ goes_up_leads : (n : ℕ) (side : Option ℕ) (place : Place) (at : At) (flow : 
 goes_up_leads n None place at flow is = is
 goes_up_leads n (Some side) place at flow is = is
 
-passed_going : (n : ℕ) (goes : Bool) (place : Place) (at : At) (flow : Flow) (most : Option ℕ) → at.dials ≡ n → Dialled n (pass_going goes place at flow most)
-passed_going n true place at flow most is = goes_up_leads n (parked_for place flow.request at.parked) place at (sending_on flow) is
-passed_going n false place at flow most is = is
+passed_going : (n : ℕ) (goes : Bool) (place : Place) (at : At) (flow : Flow) (most : Option ℕ) (seen : Sight) → at.dials ≡ n → Dialled n (pass_going goes place at flow most seen)
+passed_going n true place at flow most seen is = goes_up_leads n (parked_for place flow.request (unspoilt_at at seen).parked) place at (sending_on flow) is
+passed_going n false place at flow most seen is = is
 
 passed_given : (n : ℕ) (at : At) (flow : Flow) (response : Response) (most : Option ℕ) (item : Item ReadRequest) (now : ℕ) → at.dials ≡ n → Dialled n (pass_given at flow response most item now)
 passed_given n at flow response most missing now is = is
@@ -281,7 +291,7 @@ passed_given n at flow response most (bad_head fault) now is = is
 passed_given n at flow response most (bad_body fault head body) now is = is
 
 passed_body : (n : ℕ) (place : Place) (at : At) (flow : Flow) (given : Option Response) (most : Option ℕ) (seen : Sight) → at.dials ≡ n → Dialled n (pass_body place at flow given most seen)
-passed_body n place at flow None most seen is = passed_going n (begins_going place at flow most seen) place at flow most is
+passed_body n place at flow None most seen is = passed_going n (goes_up most seen) place at flow most seen is
 passed_body n place at flow (Some response) most seen is = passed_given n at flow response most (request_in seen) seen.now is
 
 begun : (n : ℕ) (terms : Terms) (stage : Stage) (seen : Sight) → Dialled n stage → Dialled n (begin_up terms stage seen)
@@ -312,7 +322,9 @@ ended n terms over seen is = is
 passed_came : (n : ℕ) (place : Place) (at : At) (flow : Flow) (side : ℕ) (how : Sent) (seen : Sight) (came : Option Came) → at.dials ≡ n →
     Dialled n (pass_came place at flow side how seen came).stage
 passed_came n place at flow side how seen None is = is
-passed_came n place at flow side how seen (Some came) is = behind n (is_sent how && goes_on_behind at.flow flow.request came) (unparked at) is
+passed_came n place at flow side how seen (Some came) is =
+    let kept : Bool = keeps_came at flow how seen came in
+    behind n (is_sent how && goes_on_behind at.flow flow.request came) (parks kept place at flow.request side) (parked_leads n kept place at flow.request side is)
 
 passed_kept : (n : ℕ) (streams : Bool) (place : Place) (at : At) (flow : Flow) (side : ℕ) (how : Sent) (most : Option ℕ) (seen : Sight) → at.dials ≡ n →
     Dialled n (pass_kept streams place at flow side how most seen).stage
@@ -350,21 +362,21 @@ dial_asked at flow how seen terms ask is = let P : Look Command → Type 0 = λ 
 
 turns : (terms : Terms) (n : ℕ) (stage : Stage) (seen : Sight) (ask : Command) (answer : Timed Reply) → Dialled n stage → look terms stage seen ≡ Asks ask →
     Dialled (n + length (dials_in (ask ∷ []))) (turn terms stage seen answer).stage
-turns terms n (idle at) seen ask answer is asks = stays n _ ask (asked_not _ ask asks (leaves_not _ _ _ (head_not terms at.flow (request_in seen) seen.now (server_parked at.parked seen) seen.closed))) (item_leads n terms at (request_in seen) seen answer is)
-turns terms n (busy at flow (request_body given most)) seen ask answer is asks = stays n _ ask (asked_not _ ask asks (leaves_not _ _ _ (body_not flow _ _ _ _))) (body_leads n terms.place at flow (request_in seen) seen answer is)
+turns terms n (idle at) seen ask answer is asks = stays n _ ask (asked_not _ ask asks (leaves_not _ _ _ (head_not terms at.flow (request_in seen) seen.now (server_parked (unspoilt_at at seen).parked seen) seen.closed))) (item_leads n terms (unspoilt_at at seen) (request_in seen) seen answer is)
+turns terms n (busy at flow (request_body given most)) seen ask answer is asks = stays n _ ask (asked_not _ ask asks (leaves_not _ _ _ (body_not flow _ _ _ _))) (body_leads n terms.place (unspoilt_at at seen) flow (request_in seen) seen answer is)
 turns terms n (busy at flow (connection how)) seen ask answer is asks =
-    let P : ℕ → Type 0 = λ k. Dialled (n + k) (dial_leads terms.place at flow how answer.value) in
-    subst P (sym (dial_asked at flow how seen terms ask asks)) (dial_on n terms.place at flow how answer.value is)
-turns terms n (busy at flow (response_head side how)) seen ask answer is asks = stays n _ ask (asked_not _ ask asks (leaves_not _ _ _ (up_not how seen _ _ (answer_not flow (answers_in flow.request seen).final seen.now (server_in side seen) seen.closed)))) (answer_leads terms n at flow side how (answers_in flow.request seen).final seen answer is)
+    let P : ℕ → Type 0 = λ k. Dialled (n + k) (dial_leads terms.place (unspoilt_at at seen) flow how answer.value) in
+    subst P (sym (dial_asked at flow how seen terms ask asks)) (dial_on n terms.place (unspoilt_at at seen) flow how answer.value is)
+turns terms n (busy at flow (response_head side how)) seen ask answer is asks = stays n _ ask (asked_not _ ask asks (leaves_not _ _ _ (up_not how seen _ _ (answer_not flow (answers_in flow.request seen).final seen.now (server_in side seen) seen.closed)))) (answer_leads terms n (unspoilt_at at seen) flow side how (answers_in flow.request seen).final seen answer is)
 turns terms n (busy at flow (coming_down side how)) seen ask answer is asks = tt
-turns terms n (busy at flow (response_body side how most)) seen ask answer is asks = stays n _ ask (asked_not _ ask asks (leaves_not _ _ _ (up_not how seen _ _ (returned_not flow (answers_in flow.request seen).final seen.now (server_in side seen) seen.closed)))) (returned_leads n at flow side how (answers_in flow.request seen).final seen answer is)
+turns terms n (busy at flow (response_body side how most)) seen ask answer is asks = stays n _ ask (asked_not _ ask asks (leaves_not _ _ _ (up_not how seen _ _ (returned_not flow (answers_in flow.request seen).final seen.now (server_in side seen) seen.closed)))) (returned_leads n terms.place (unspoilt_at at seen) flow side how (answers_in flow.request seen).final seen answer is)
 turns terms n (busy at flow (upgraded side)) seen ask answer is asks = tt
 turns terms n (busy at flow given_head) seen ask answer is asks =
     stays n _ ask (asked_not (look terms (busy at flow given_head) seen) ask asks refl) (response_leads n flow.response _ _
-    (λ taken. taken_given_leads n at (given_at flow seen.now) taken answer.moment _ _ is))
+    (λ taken. taken_given_leads n (unspoilt_at at seen) (given_at flow seen.now) taken answer.moment _ _ is))
 turns terms n (busy at flow given_body) seen ask answer is asks =
     stays n _ ask (asked_not (look terms (busy at flow given_body) seen) ask asks refl) (response_leads n flow.response _ _
-    (λ taken. taken_returned_leads n at flow taken answer.moment _ _ is))
+    (λ taken. taken_returned_leads n (unspoilt_at at seen) flow taken answer.moment _ _ is))
 turns terms n (next at) seen ask answer is asks = absurd (let wrong : Ends [] ≡ Asks ask = asks in cc)
 turns terms n over seen ask answer is asks = tt
 

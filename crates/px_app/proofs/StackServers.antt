@@ -19,8 +19,9 @@ use Rattle.px_exchange.specs.Endings.{shut_all, shut_client, shut_server}
 use Rattle.px_exchange.specs.declared.ending.Used.{Used}
 use Rattle.px_exchange.specs.declared.ending.Used.TheVariants.{NoServer, ByServer}
 use Rattle.px_chain.specs.Chain.{Connect, connect_in, look as look_of}
+use Rattle.px_chain.specs.Keeping.{unspoilt_at}
 use Rattle.px_chain.specs.Sights.{Sight, Standing, request_in, sight_over}
-use Rattle.px_chain.specs.Stages.{At, Sent, all_sent, busy, coming_down, connection, given_body, given_head, going_up, idle, next, request_body, response_body, response_head, upgraded}
+use Rattle.px_chain.specs.Stages.{At, Parked, Sent, all_sent, busy, coming_down, connection, given_body, given_head, going_up, idle, next, request_body, response_body, response_head, upgraded}
 use Rattle.px_chain.specs.Stages as flows
 use Rattle.px_chain.specs.Streams.{Since, client_closed, from_here, now_over}
 use Rattle.px_tunnel.specs.Upstream.{Granting, awaited, granted, refused}
@@ -28,7 +29,7 @@ use Rattle.px_relay.specs.Chain as relay
 use Rattle.px_relay.specs.Sending.{Terms}
 use Rattle.px_relay.specs.Sights.{Sight as SocketSight}
 use Rattle.px_relay.specs.Stages.{Stage as Frames, holding, over as ended, relaying}
-use Rattle.px_stack.specs.Chain.{answer_of, begins, begun, closed_before, closes_all, connected_on, finished_flow, flows_at, follows, goes_by, hands_by, has_answered, is_shut, led_at, led_by, opening_look, opening_text, or_stays, pass_flows, pass_http, pass_reached, pass_socket, raw_look, socket_sight, socket_terms, stack_chain, tunnel_for, tunnel_found, turn_connected, turn_dial, turn_http, upgrades, used_proxy, way_to}
+use Rattle.px_stack.specs.Chain.{answer_of, begins, begun, closed_before, closes_all, connected_on, finished_flow, flows_at, follows, goes_by, hands_by, hands_over, has_answered, is_shut, led_at, led_by, opening_look, opening_text, or_stays, owed_at_handing, pass_flows, pass_http, pass_reached, pass_socket, raw_look, shut_parked, socket_sight, socket_terms, stack_chain, tunnel_for, tunnel_found, turn_connected, turn_dial, turn_http, upgrades, used_proxy, way_to}
 use Rattle.px_stack.specs.Decides.{Decision, decided, is_http, is_raw, still}
 use Rattle.px_stack.specs.Frames.{AreSaid, pass_says, turn_says}
 use Rattle.px_stack.specs.Modes.{mode_due}
@@ -75,6 +76,16 @@ flow_none : (flow : Option Flow) → dials_in (finished_flow flow) ≡ []
 flow_none None = refl
 flow_none (Some flow) = refl
 
+-- nor the close of a side that was parked
+parked_none : (parked : Option Parked) → dials_in (shut_parked parked) ≡ []
+parked_none None = refl
+parked_none (Some parked) = refl
+
+-- what HTTP owed while it waited dials nothing where it hands over
+handed_none : (to : Option Stage) (owed : List Command) → dials_in owed ≡ [] → dials_in (owed_at_handing to owed) ≡ []
+handed_none None owed none = refl
+handed_none (Some to) owed none = none
+
 found_none : (closed : Bool) (owed : List Command) → dials_in owed ≡ [] → dials_in (found (tunnel_found closed owed)) ≡ []
 found_none true owed none = none
 found_none false owed none = refl
@@ -116,7 +127,7 @@ module _ (conv : ℕ) (client : Visitor) where
 
   hands_dialled : (n : ℕ) (place : Place) (standing : Standing) (stage : flows.Stage) (seen : Sight) → DialledAt n standing → Dialled n stage →
       DialledSo n (or_stays (http place standing) (hands_by place standing stage seen))
-  hands_dialled n place standing (idle at) seen is here = tunnel_dialled n place standing standing.used.client at (connect_in place (request_in seen)) is here
+  hands_dialled n place standing (idle at) seen is here = tunnel_dialled n place standing standing.used.client (unspoilt_at at seen) (connect_in place (request_in seen)) is here
   hands_dialled n place standing (busy at flow (request_body given most)) seen is here = is
   hands_dialled n place standing (busy at flow (connection how)) seen is here = is
   hands_dialled n place standing (busy at flow (response_head side how)) seen is here = is
@@ -166,7 +177,10 @@ module _ (conv : ℕ) (client : Visitor) where
       let knows = (flows_counts place).pass n standing prefix is in
       let to : Stage = pass_http conv client place on.stage prefix in
       let further = begun_dialled n to prefix (hands_dialled n place on.stage on.stage.stage (sight_over on.stage prefix) knows.1 knows.1) in
-      (none_both on.owed (begun conv client to prefix).owed knows.0 further.0, further.1)
+      let handed : List Command = owed_at_handing (hands_over place on.stage prefix) ((flows_at conv client place).so_far on.stage prefix) in
+      let waited : dials_in handed ≡ [] = handed_none (hands_over place on.stage prefix) ((flows_at conv client place).so_far on.stage prefix) ((flows_counts place).so_far on.stage prefix) in
+      let rest : List Command = (begun conv client to prefix).owed in
+      (none_both on.owed (handed ++ rest) knows.0 (none_both handed rest waited further.0), further.1)
 
   -- ---- another proxy, which has answered
 
@@ -205,7 +219,7 @@ module _ (conv : ℕ) (client : Visitor) where
 
   parts : (stage : Stage) (prefix : List (Timed Event)) → dials_in ((stack_chain conv client).behind stage prefix) ≡ []
   parts (http place standing) prefix = (flows_counts place).behind standing prefix
-  parts (connecting tunnel) prefix = refl
+  parts (connecting tunnel) prefix = parked_none tunnel.at.parked
   parts (reaching goal link since) prefix = refl
   parts (undecided tunnel link since) prefix = refl
   parts (raw ends) prefix = refl
