@@ -56,8 +56,8 @@ pub(crate) fn post(
     sent
 }
 
-/// What is given of so many GETs that come in one piece, and of their responses, each in a piece of its own. Each request
-/// is sent to a server of its own.
+/// What is given of so many GETs that come in one piece, and of their responses, each in a piece of its own. One server is
+/// dialled, for the first request, and its connection is kept for the others.
 pub(crate) fn gets(alloc: Global, count: u64) -> Result<Sent, NoMemory> {
     let mut requests = Vec::new(alloc);
     for _ in 0..count {
@@ -148,18 +148,18 @@ fn say_gets<L: Layer>(
     Ok(sent)
 }
 
-// The client says its requests, and so many servers a response each.
+// The client says its requests, and the server so many responses, one after the other.
 fn say_all<L: Layer>(
     gate: &mut Gate<L>,
     given: &mut Given,
     requests: Bytes,
     response: &Bytes,
-    servers: u64,
+    count: u64,
 ) -> Result<(), NoMemory>
     requires { IsSound (GateStands L.stands L.awaited) gate.old }
 {
     say(gate, given, Side::Client, requests)?;
-    say_of_each(gate, given, response, servers)
+    say_often(gate, given, Side::Server(0), response, count)
 }
 
 // The side says a message with these first lines and this body.
@@ -198,23 +198,6 @@ fn say_often<L: Layer>(
 {
     for _ in 0..times {
         say(gate, given, side, piece.try_clone()?)?;
-    }
-    Ok(())
-}
-
-// So many servers say this piece, one after the other.
-fn say_of_each<L: Layer>(
-    gate: &mut Gate<L>,
-    given: &mut Given,
-    piece: &Bytes,
-    servers: u64,
-) -> Result<(), NoMemory>
-    requires { IsSound (GateStands L.stands L.awaited) gate.old }
-{
-    let mut server = 0u32;
-    for _ in 0..servers {
-        say(gate, given, Side::Server(server), piece.try_clone()?)?;
-        server = server.saturating_add(1);
     }
     Ok(())
 }

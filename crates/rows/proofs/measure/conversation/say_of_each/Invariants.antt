@@ -1,6 +1,0 @@
-use Rattle.px_event.specs.Layer.{IsSound}
-use Rattle.px_gate.specs.Gate.{GateStands}
-use Rattle.rows.proofs.measure.conversation.say_of_each.Given as goal
-
-abbrev pub invariant-loop : goal.invariant-loop
-invariant-loop g l = IsSound (GateStands g.L.Layer.stands g.L.Layer.awaited) l.gate
