@@ -19,6 +19,7 @@ from export_cases import EXPORT_CASES
 from file_cases import FILE_CASES
 from fuzz_cases import FUZZ_CASES
 from hostile_cases import HOSTILE_CASES
+from keeping_cases import KEEPING_CASES
 from kept_cases import KEPT_CASES
 from mode_cases import MODE_CASES
 from name_cases import NAME_CASES
@@ -220,7 +221,7 @@ CASES = [
 OWN_CASES = [
     *BUSY_CASES, *OPTION_CASES, *MODE_CASES, *TUNNEL_CASES, *UPSTREAM_CASES, *WEBSOCKET_CASES, *PAGE_CASES, *SAVING_CASES, *EXPORT_CASES, *SHOW_CASES, *REPLAY_CASES,
     *KEPT_CASES, *STREAM_CASES, *GOING_UP_CASES, *RESEND_CASES, *OPERATOR_CASES, *VIEW_CASES, *EDIT_CASES, *START_CASES, *DOOR_CASES, *NAME_CASES, *FILE_CASES,
-    *WORD_CASES, *ROWS_CASES, *HOSTILE_CASES, *FUZZ_CASES,
+    *KEEPING_CASES, *WORD_CASES, *ROWS_CASES, *HOSTILE_CASES, *FUZZ_CASES,
 ]
 
 # The cases whose lines come in no order.

@@ -317,6 +317,10 @@ class Round:
             for served, _, made in self.servers.asked.get(path, []):
                 if made.frames and served.frames != made.frames + [(8, CLOSE, True)]:
                     self.find(f"{client.name}, exact: its server was sent the frames {served.frames!r:.900}, and not {made.frames!r:.900} and a Close")
+        # (all go to one server, which closes behind the last one at most)
+        used = {served.name for path in talk.asked for served, _, _ in self.servers.asked.get(path, [])}
+        if len(used) > 1:
+            self.find(f"{client.name}, exact: its requests went on {sorted(used)}")
 
     def check_operators(self):
         for operator in self.operators:

@@ -91,12 +91,12 @@ def case_server_that_nobody_listens_at():
 
 
 def case_through_another_proxy():
-    """The request goes to the proxy above in absolute form, as it takes no other, and from there to its server."""
+    """The requests go to the proxy above in absolute form, as it takes no other, on one connection, and from there each to its server."""
     with Origin(OTHER), regular(port=ABOVE) as above, Mitm(mode=UPSTREAM) as mitm:
         same(curl(*THROUGH, at("/a"), at("/b", OTHER)), b"/a\n/b\n")
         same(mitm.notes(), [f"listening at 127.0.0.1:8080, through http://127.0.0.1:{ABOVE}"])
         same(mitm.new_lines(2), [line("GET", "/a", 200, 3), line("GET", "/b", 200, 3, index=1, port=OTHER)])
-        same(above.new_lines(2), [line("GET", "/a", 200, 3), line("GET", "/b", 200, 3, port=OTHER)])
+        same(above.new_lines(2), [line("GET", "/a", 200, 3), line("GET", "/b", 200, 3, index=1, port=OTHER)])
 
 
 def case_bodies_through_another_proxy():

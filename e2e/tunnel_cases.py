@@ -120,7 +120,7 @@ def case_https_goes_through_unread():
 
 
 def case_http_in_a_tunnel_is_seen():
-    """The first request goes to the server that is connected, a later one on a connection of its own."""
+    """Its requests go to the server that is connected."""
     with regular("modify_headers = [\"/~q/X-Seen/yes\"]\n") as mitm:
         got = curl(*THROUGH, "-p", f"http://127.0.0.1:{ORIGIN}/head", f"http://127.0.0.1:{ORIGIN}/a")
         assert b"X-Seen: yes\n" in got and got.endswith(b"/a\n"), got

@@ -53,11 +53,11 @@ def case_https_through_another_proxy():
 
 
 def case_http_in_a_tunnel_through_another_proxy():
-    """Both see it. The second request has a tunnel of its own, which begins a conversation of the proxy above."""
+    """Both see it. The second request goes through the same tunnel, so it is the second one of a conversation of the proxy above."""
     with regular(port=ABOVE) as above, Mitm(mode=UPSTREAM) as mitm:
         same(curl(*THROUGH, "-p", f"http://127.0.0.1:{ORIGIN}/a", f"http://127.0.0.1:{ORIGIN}/b"), b"/a\n/b\n")
         same(mitm.new_lines(2), [line("GET", "/a", 200, 3), line("GET", "/b", 200, 3, index=1)])
-        same(above.new_lines(2), [line("GET", "/a", 200, 3), line("GET", "/b", 200, 3)])
+        same(above.new_lines(2), [line("GET", "/a", 200, 3), line("GET", "/b", 200, 3, index=1)])
 
 
 def case_squid_above():
@@ -88,7 +88,7 @@ def case_proxy_above_that_refuses():
 
 
 def case_proxy_above_that_refuses_a_request():
-    """The first request in a tunnel went through; the way of the second one is refused, and its line says so."""
+    """The first request in a tunnel went through, and its server said that it closes; the way of the second one is refused, and its line says so."""
     seen = []
 
     def serve(connection):
@@ -99,10 +99,11 @@ def case_proxy_above_that_refuses_a_request():
             return
         connection.sendall(b"HTTP/1.1 200 OK\r\n\r\n")
         read_head(connection)
-        connection.sendall(b"HTTP/1.1 204 No Content\r\n\r\n")
+        connection.sendall(b"HTTP/1.1 204 No Content\r\nConnection: close\r\n\r\n")
         connection.recv(1)
 
-    with Peer(serve, ABOVE), Mitm(mode=UPSTREAM) as mitm:
+    # (so that the client's connection goes on)
+    with Peer(serve, ABOVE), Mitm('modify_headers = ["/~s/Connection/"]\n', mode=UPSTREAM) as mitm:
         with connect() as client:
             client.sendall(b"GET /a HTTP/1.1\r\n\r\nGET /b HTTP/1.1\r\n\r\n")
             same(read_head(client), b"HTTP/1.1 204 No Content\r\n\r\n")
