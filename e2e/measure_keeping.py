@@ -57,14 +57,15 @@ backend closing
 
 
 def serve_closing(keeps, dialled):
-    """The origin that closes a connection on which nothing came for so many seconds; an answer has its request's path. It counts its connections."""
+    """The origin that closes a connection on which nothing came for so many seconds behind an answer, which has its request's path. It counts its connections."""
     async def answer(reader, writer):
         with dialled.get_lock():
             dialled.value += 1
+        waits = 60
         try:
             while True:
-                head = await asyncio.wait_for(reader.readuntil(b"\r\n\r\n"), keeps)
-                path = head.split(b" ", 2)[1]
+                head = await asyncio.wait_for(reader.readuntil(b"\r\n\r\n"), waits)
+                path, waits = head.split(b" ", 2)[1], keeps
                 writer.write(b"HTTP/1.1 200 OK\r\nContent-Length: %d\r\n\r\n%s" % (len(path), path))
         except (asyncio.IncompleteReadError, asyncio.TimeoutError, ConnectionError):
             writer.close()
