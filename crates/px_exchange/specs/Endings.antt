@@ -1,5 +1,5 @@
 -- How flows and conversations end: the bytes, the finished flow and the closes, in this order.
-use Rattle.std.specs.Prelude.{ℕ, ◌+◌, Bool, true, false, ◌&&◌, not, if◌then◌else◌, nat_lt, List, [], ◌∷◌, ◌++◌, codes, Some, None, Result, Ok}
+use Rattle.std.specs.Prelude.{ℕ, ◌+◌, ◌==◌, Bool, true, false, ◌&&◌, not, if◌then◌else◌, nat_lt, List, [], ◌∷◌, ◌++◌, codes, Some, None, Result, Ok}
 use Rattle.px_message.specs.Fields.{has_element}
 use Rattle.px_message.specs.Length.{response_length, stands, transfer_encoding}
 use Rattle.px_message.specs.Settle.{settled_request, settled_response}
@@ -111,10 +111,11 @@ persists_settled Http10 request = not request.streamed && persists Http10 (settl
 abbrev pub sent_persists : Request → Bool
 sent_persists request = persists_settled request.version request
 
--- and the response, as it was read, which does not run to the close
+-- and the response, as it was read, which does not run to the close, nor switch protocols (RFC 9110 section 15.2.2)
 abbrev pub read_persists : Request → ReadResponse → Bool
 read_persists request head =
-    persists head.version head.fields && not (is_to_close (response_length head.code (is_head request.method) head.fields))
+    (persists head.version head.fields && not (is_to_close (response_length head.code (is_head request.method) head.fields)))
+    && not (head.code == 101)
 
 -- a side that is kept is not closed
 abbrev pub unless_kept : Bool → Used → Used

@@ -10,11 +10,12 @@ use Rattle.px_exchange.specs.declared.place.Place.{Place}
 use Rattle.px_exchange.specs.declared.place.Place.TheVariants as places
 use Rattle.px_exchange.specs.declared.terms.Terms.{Terms}
 
--- the place of each conversation in this mode
-abbrev pub place_of : Mode → Place
-place_of modes.Regular = places.Regular
-place_of (modes.Reverse address) = places.Fixed address None None
-place_of (modes.Upstream proxy) = places.Upstream proxy
+-- The place of each conversation in this mode. A client of SOCKS says first where its requests go.
+abbrev pub place_of : Mode → Option Place
+place_of modes.Regular = Some places.Regular
+place_of (modes.Reverse address) = Some (places.Fixed address None)
+place_of (modes.Upstream proxy) = Some (places.Upstream proxy)
+place_of modes.Socks = None
 
 -- where a request goes: to its own host and port, as its hooks left them
 abbrev pub address_of : Request → Address
@@ -33,7 +34,7 @@ dialled_by (Some proxy) request = proxy
 abbrev pub dialled_for : Place → Request → Address
 dialled_for places.Regular request = address_of request
 dialled_for (places.Upstream proxy) request = proxy
-dialled_for (places.Fixed address side inside) request = dialled_by inside request
+dialled_for (places.Fixed address inside) request = dialled_by inside request
 
 -- the same host, byte by byte, and the same port
 abbrev pub is_same_address : Address → Address → Bool

@@ -54,7 +54,7 @@ goal_in _ = None
 
 -- where a request goes, and its path: what is served by one address goes there, whatever the target's host is
 abbrev pub goal_at : Place → Option Form → Option (Address × List ℕ)
-goal_at (places.Fixed address side inside) form = with_path (Some address) (path_said form)
+goal_at (places.Fixed address inside) form = with_path (Some address) (path_said form)
 goal_at places.Regular form = goal_in form
 goal_at (places.Upstream proxy) form = goal_in form
 
@@ -65,7 +65,7 @@ tunnel_in _ = None
 
 -- A client of a proxy may ask for a tunnel; what is served by one address is none.
 abbrev pub tunnel_at : Place → Option Form → Option Address
-tunnel_at (places.Fixed address side inside) form = None
+tunnel_at (places.Fixed address inside) form = None
 tunnel_at places.Regular form = tunnel_in form
 tunnel_at (places.Upstream proxy) form = tunnel_in form
 

@@ -184,13 +184,14 @@ fn persists_settled(request: &Request) -> Result<bool, NoMemory>
     Ok(persists(sent.version, &sent.fields))
 }
 
-/// Whether a response persists as its head was read, and does not run to the close (RFC 9112 section 9.3): its server's side may be kept behind it.
+/// Whether a response persists as its head was read, does not run to the close (RFC 9112 section 9.3) and does not switch protocols (RFC 9110
+/// section 15.2.2): its server's side may be kept behind it.
 pub fn read_persists(request: &Request, head: &ResponseHead) -> bool
     ensures { result ≡ read_persists request.now head.now }
 {
     let persists = persists(head.version, &head.fields);
     let to_close = is_to_close(head.code, is_head(request.method.bytes()), &head.fields);
-    persists && !to_close
+    persists && !to_close && head.code != 101
 }
 
 /// The response as it is sent: its framing made true to its body.

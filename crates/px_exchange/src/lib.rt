@@ -25,8 +25,8 @@
 //! the close (RFC 9112 section 9.3): so `Connection: close` in either of them ends it, and so does an answer of version 1.0
 //! that does not say `keep-alive`.
 //!
-//! `Mode` says where requests go, and a conversation's `Place` follows from it. Some place has a server's side that is
-//! connected and that no flow uses; `Place::goes_to` tells whether a request goes to its address. The server of a request and what
+//! `Mode` says where requests go, and a conversation's `Place` follows from it, unless its client says that first (SOCKS5).
+//! `Place::goes_to` tells whether a request goes to an address. The server of a request and what
 //! is dialled for it (`flows::server_for`, `flows::dialled_for`) are two addresses where a place is reached through another proxy.
 //!
 //! What is found where a message is awaited (`specs/Finds.antt`), and what a dial's answer brings (`specs/Dials.antt`), are

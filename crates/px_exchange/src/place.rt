@@ -15,11 +15,10 @@ pub enum Place {
     /// hooks left. Its target comes in absolute form too. A CONNECT asks for a tunnel through that proxy.
     Upstream(Address),
     /// All requests go to this address, unless their hooks send them elsewhere. Their targets are in origin form, in absolute
-    /// form, of which the path alone is used, or `*`; a CONNECT is a bad target. `side` is a server's side that is connected
-    /// and that no flow has used, if there is one, and `inside` the proxy through which each server is reached, if there is one.
+    /// form, of which the path alone is used, or `*`; a CONNECT is a bad target. `inside` is the proxy through which each server
+    /// is reached, if there is one.
     Fixed {
         address: Address,
-        side: Option<u32>,
         inside: Option<Address>,
     },
 }
