@@ -1,2 +1,4 @@
 pub mod GreetingLemmas
+pub mod LayerLemmas
 pub mod RequestLemmas
+pub mod StandLemmas

@@ -1,4 +1,9 @@
-pub mod Greeting
-pub mod Request
 pub mod Answer
+pub mod Chain
+pub mod FrontLaws
+pub mod Greeting
+pub mod LayerLaws
 pub mod Laws
+pub mod Request
+pub mod Stages
+pub mod Stands

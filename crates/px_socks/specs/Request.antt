@@ -1,7 +1,9 @@
 -- What a client asks for (RFC 1928 section 4): 05, the command, 00, the type of an address, the address, and a port in two bytes, the
 -- higher one first. Only the command CONNECT is served. Each byte is judged as it comes, in this order.
-use Rattle.std.specs.Prelude.{ℕ, zero, suc, ◌+◌, ◌*◌, ◌⊎◌, ◌==◌, if◌then◌else◌, List, [], ◌∷◌, ◌++◌, slice_index, codes, decimal}
+use Rattle.std.specs.Prelude.{◌≡◌, ◌≢◌, ℕ, zero, suc, ◌+◌, ◌*◌, ◌⊎◌, ◌==◌, Bool, true, false, if◌then◌else◌, List, [], ◌∷◌, ◌++◌, Option, Some, None, slice_index, codes, decimal}
 use Rattle.std.proofs.Common.{inl, inr}
+use Rattle.std.proofs.lemmas.Bool.{eq-eqb}
+use Rattle.px_message.specs.declared.address.Address.{Address}
 use Rattle.px_text.specs.Number.{hexadecimal}
 use Rattle.px_message.specs.Host.{IsHost}
 use Rattle.px_message.specs.TellHost.{tell_host}
@@ -19,6 +21,14 @@ abbrev pub heard : SocksStep → Heard
 heard More = more
 heard (Connect address used) = connect address.host address.port used
 heard (Refused code) = refused code
+
+pub not_zero : (port : ℕ) → (port == 0) ≡ false → port ≢ 0
+not_zero port differs is = let e : (port == 0) ≡ true = eq-eqb port 0 is in cc
+
+-- the address of this host and port, where the port is one that a server has
+abbrev pub address_with : List ℕ → (port : ℕ) → (zero : Bool) → (port == 0) ≡ zero → Option Address
+address_with host port true is = None
+address_with host port false is = Some (record { host = host; port = port; port_not_zero = not_zero port is })
 
 -- ---- the texts of addresses
 

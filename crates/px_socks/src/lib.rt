@@ -11,16 +11,25 @@
 //! the port is there; so does the port, which is not 0. Both readers equal that machine for every text, and begin anew with all bytes at
 //! each call: a request has at most 262 of them.
 //!
+//! `SocksLayer` is the client as a layer, from its first byte until the server that it asks for is connected or refused
+//! (`specs/Stages.antt`, `specs/Chain.antt`). It is greeted by 05 00, or by 05 FF where 00 is none of its methods; a first byte other than 05 is answered by nothing. A request
+//! that is served is a dial, which is answered by code 0 where it connects and by 1 where it does not. Behind any other answer
+//! than 05 00 and code 0 the client is closed. Greeting and request may come in one piece, in many, and with bytes of the next protocol behind
+//! them (`SocksTunnel`): only the joined bytes count.
+//!
 //! The laws say that what was decided stays, whatever follows, that more is awaited only where nothing was decided, and that the bytes
 //! that a greeting or a request is said to have are there.
 #![tactic(auto)]
 
 mod answer;
+mod chained;
 mod greeting;
 mod host;
 pub mod laws;
+mod layer;
 mod request;
 
-pub use answer::push_answer;
+pub use answer::{push_answer, push_method};
 pub use greeting::{Greeting, read_greeting};
+pub use layer::{SocksLayer, SocksTunnel};
 pub use request::{SocksStep, read_request};
