@@ -288,13 +288,13 @@ unspoilt_for false place request parked side is = absurd (let e : None ≡ Some 
 framed_server : (place : Place) (head : ReadRequest) (request : Request) → server_for place (framed_up head request) ≡ server_for place request
 framed_server places.Regular head request = refl
 framed_server (places.Upstream proxy) head request = refl
-framed_server (places.Fixed address side inside) head request = refl
+framed_server (places.Fixed address inside) head request = refl
 
 -- nor that it is streamed
 streamed_server : (place : Place) (flow : Flow) → server_for place (sending_on flow).request ≡ server_for place flow.request
 streamed_server places.Regular flow = refl
 streamed_server (places.Upstream proxy) flow = refl
-streamed_server (places.Fixed address side inside) flow = refl
+streamed_server (places.Fixed address inside) flow = refl
 
 same_goes : (place : Place) (request other : Request) (parked : Option Parked) (server : ℕ) → server_for place other ≡ server_for place request → GoesToParked place parked server request →
     GoesToParked place parked server other

@@ -26,7 +26,6 @@ use Rattle.px_exchange.specs.declared.taken.Taken.{Taken}
 use Rattle.px_exchange.specs.declared.taken.Taken.TheVariants.{GoesOn, Responds, Kills}
 use Rattle.px_exchange.specs.declared.terms.Terms.{Terms}
 use Rattle.px_exchange.specs.declared.place.Place.{Place}
-use Rattle.px_exchange.specs.declared.place.Place.TheVariants as places
 use Rattle.px_exchange.specs.Dials.{connected_owes, dial_owes}
 use Rattle.px_exchange.specs.Endings.{without_response, killed_message, closed_message, ends_by_fault, ends_early, connection_goes_on, finished, shut_server, shut_unless, unless_kept}
 use Rattle.px_exchange.specs.Finds.{or_leaves, look_head, look_body, look_answer, look_returned}
@@ -544,11 +543,6 @@ connect_in place (complete head body trailers used) = connect_by (judged place h
 connect_in place _ = None
 
 -- ---- the chain
-
--- the side that is connected before a conversation begins, in a place that has one
-abbrev pub parked_of : Place → Option Parked
-parked_of (places.Fixed address (Some server) inside) = Some (record { server = server; address = address })
-parked_of place = None
 
 -- where a conversation stands at first
 abbrev pub begin : Stage → Standing

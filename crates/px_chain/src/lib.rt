@@ -30,7 +30,7 @@
 //! before the reply comes here, is of the crate above too: here the server is connected by its reply, wherever it was dialled.
 //!
 //! One server's side is open at most: the flow's own, or one that is parked, which no flow uses. A conversation may begin with a parked
-//! side (`parked_of`). The first request, where it goes to its address, is sent to it in the turn that answers its body's hook, or as it goes
+//! side. The first request, where it goes to its address, is sent to it in the turn that answers its body's hook, or as it goes
 //! up, and no connection is asked for; a dial closes it (`behind`).
 //!
 //! A stage counts no bytes and no events. It looks at the joined bytes of the client and of that side, behind those that flows before have

@@ -5,7 +5,7 @@ ghost use Rattle.px_event.specs.Layer.{AsksOnly, IsSound, MayAnswer, Move};
 ghost use Rattle.px_event.specs.declared.command.Command.{Command as GivenCommand};
 ghost use Rattle.px_event.specs.declared.event.Event.{Event as Heard};
 ghost use Rattle.px_http.specs.Stands.{HttpStands, awaits, seen_at, stage_at};
-ghost use Rattle.px_chain.specs.Chain.{look, parked_of};
+ghost use Rattle.px_chain.specs.Chain.{look};
 ghost use Rattle.px_exchange.specs.Places.{terms_of};
 ghost use Rattle.px_exchange.specs.declared.terms.Terms.{Terms as Made};
 ghost use Rattle.px_chain.specs.Sights.{Standing};
@@ -18,7 +18,7 @@ use px_event::{Ask, Command, Event, Layer, Reply, Rests};
 use px_exchange::Boxed;
 use px_exchange::ending::Used;
 use px_message::{Address, Flow, FlowId};
-use px_stream::{At, Outcome, Place, Stream};
+use px_stream::{At, Kept, Outcome, Place, Stream};
 use px_text::{Bytes, NoMemory};
 use std::alloc::Global;
 
@@ -30,8 +30,8 @@ pub struct HttpConv {
 
 impl HttpConv {
     /// A conversation of this number, of a client there, whose requests go to this place. Its first flow has the index
-    /// `first_flow`, and the next server that it dials is the one of number `next_server`. Where a side of the place is connected
-    /// already, its number is below that one.
+    /// `first_flow`, and the next server that it dials is the one of number `next_server`. Where a side is kept
+    /// from before, its number is below that one, and the first request that goes to its address takes it.
     ///
     /// It stands for itself by no moves, has given nothing and awaits nothing; it was handed nothing, so it may `begin`.
     pub fn new(
@@ -39,15 +39,16 @@ impl HttpConv {
         conv: u32,
         client: Option<Address>,
         place: Place,
+        kept: Option<Kept>,
         first_flow: u32,
         next_server: u32,
     ) -> Result<HttpConv, NoMemory>
         requires few { first_flow < 1000000 }
         requires dials { next_server ≤ first_flow + 1 }
-        requires side { IsSideBelow place next_server }
+        requires side { IsSideBelow kept next_server }
         ensures stands { IfOk result (λ made. HttpStands made made [] []) }
         ensures terms { IfOk result (λ made. made.stream.terms ≡ terms_of conv client place) }
-        ensures at { IfOk result (λ made. made.stream.at ≡ record { flow = first_flow; dials = next_server; parked = parked_of place }) }
+        ensures at { IfOk result (λ made. made.stream.at ≡ record { flow = first_flow; dials = next_server; parked = kept }) }
         ensures new { IfOk result (λ made. IsNew made.stream) }
         ensures free { IfOk result (λ made. awaits made ≡ None) }
     {
@@ -56,7 +57,7 @@ impl HttpConv {
             index: first_flow,
         };
         Ok(HttpConv {
-            stream: Stream::new(alloc, id, client, place, next_server, true)?,
+            stream: Stream::new(alloc, id, client, place, kept, next_server, true)?,
         })
     }
 

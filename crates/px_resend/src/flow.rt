@@ -15,7 +15,7 @@ pub fn proxy_of(mode: &Mode) -> Result<Option<Address>, NoMemory>
 {
     match mode {
         Mode::Upstream(proxy) => Ok(Some(proxy.try_clone()?)),
-        Mode::Regular | Mode::Reverse(_) => Ok(None),
+        Mode::Regular | Mode::Reverse(_) | Mode::Socks => Ok(None),
     }
 }
 

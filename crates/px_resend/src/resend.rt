@@ -251,7 +251,7 @@ impl Resend {
             conv: self.conv,
             index: 0,
         };
-        let stream = Stream::new(self.alloc, id, None, place_of(&self.proxy)?, 0, false)?;
+        let stream = Stream::new(self.alloc, id, None, place_of(&self.proxy)?, None, 0, false)?;
         Ok(Box::new(self.alloc, stream)?)
     }
 

@@ -128,7 +128,7 @@ module _ (place : Place) where
 server_whole : (place : Place) (request : Request) (body : Body) (trailers : List (List ℕ × List ℕ)) → server_for place (whole_request request body trailers) ≡ server_for place request
 server_whole places.Regular request body trailers = refl
 server_whole (places.Upstream proxy) request body trailers = refl
-server_whole (places.Fixed address side inside) request body trailers = refl
+server_whole (places.Fixed address inside) request body trailers = refl
 
 parked_whole : (place : Place) (request : Request) (body : Body) (trailers : List (List ℕ × List ℕ)) (parked : Option Parked) →
     parked_for place (whole_request request body trailers) parked ≡ parked_for place request parked

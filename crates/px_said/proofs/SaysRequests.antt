@@ -144,7 +144,7 @@ fixed_goal own address (Some said) path is = ap (λ (goal : Address × List ℕ)
 
 -- the target says the path of the request
 path_of_goal : (place : Place) (form : Option Form) (address : Address) (path : List ℕ) → goal_at place form ≡ Some (address, path) → path_said form ≡ Some path
-path_of_goal (places.Fixed own side inside) form address path is = fixed_goal own address (path_said form) path is
+path_of_goal (places.Fixed own inside) form address path is = fixed_goal own address (path_said form) path is
 path_of_goal places.Regular form address path is = ap path_said (form_goal form address path is)
 path_of_goal (places.Upstream proxy) form address path is = ap path_said (form_goal form address path is)
 
@@ -164,8 +164,8 @@ path_sent method read path said text = (path_bytes path (path_read method read p
 target_sent : (place : Place) (method read : List ℕ) (address : Address) (path : List ℕ) → method ≢ connect_method → IsUtf8 read
     → goal_at place (target_form method read) ≡ Some (address, path)
     → IsSentTarget place method read (target_text (form_at place) address.host address.port path)
-target_sent (places.Fixed own side inside) method read address path no_connect text goal =
-    let said = path_of_goal (places.Fixed own side inside) (target_form method read) address path goal in
+target_sent (places.Fixed own inside) method read address path no_connect text goal =
+    let said = path_of_goal (places.Fixed own inside) (target_form method read) address path goal in
     let sent = path_sent method read path said text in
     record { keeps = said; some = sent.0.0; bytes = sent.0.1; utf8 = sent.1 }
 target_sent places.Regular method read address path no_connect text goal =
@@ -190,7 +190,7 @@ target_sent (places.Upstream proxy) method read address path no_connect text goa
 -- the target that is sent keeps what was read, also of a request that is not whole
 pub target_kept : (place : Place) (method read : List ℕ) (address : Address) (path : List ℕ) → method ≢ connect_method → goal_at place (target_form method read) ≡ Some (address, path)
     → KeepsTarget place method read (target_text (form_at place) address.host address.port path)
-target_kept (places.Fixed own side inside) method read address path no_connect goal = path_of_goal (places.Fixed own side inside) (target_form method read) address path goal
+target_kept (places.Fixed own inside) method read address path no_connect goal = path_of_goal (places.Fixed own inside) (target_form method read) address path goal
 target_kept places.Regular method read address path no_connect goal = path_of_goal places.Regular (target_form method read) address path goal
 target_kept (places.Upstream proxy) method read address path no_connect goal =
     let form = form_goal (target_form method read) address path goal in

@@ -14,7 +14,7 @@ use Rattle.px_read.specs.Reader.{State, before_all, behind_end, request}
 use Rattle.px_exchange.specs.Dials.{connected_owes}
 use Rattle.px_exchange.specs.declared.place.Place.{Place}
 use Rattle.px_exchange.specs.declared.terms.Terms.{Terms}
-use Rattle.px_chain.specs.Chain.{http_chain, parked_of, reached, sequence}
+use Rattle.px_chain.specs.Chain.{http_chain, reached, sequence}
 use Rattle.px_chain.specs.Sights.{IsWithin, Sight, Standing, sight_over}
 use Rattle.px_chain.specs.Stages.{At, Doing, Parked, Sent, Stage, all_sent, busy, connection, given_head, going_up, idle, next, over, request_body, response_head}
 use Rattle.px_chain.specs.Streams.{client_closed, now_over}
@@ -73,11 +73,10 @@ abbrev pub unheard : Option Parked → Option Link
 unheard None = None
 unheard (Some parked) = Some (unread_link parked.server false [] false)
 
--- It was handed nothing yet. A side that its place has is parked.
+-- It was handed nothing yet. A side that is kept from before is parked.
 pub record IsNew (state : Stream) : Type 0 where
   pub requests : state.requests ≡ before_all request [] false
   pub client : state.client_closed ≡ false
-  pub parked : state.at.parked ≡ parked_of state.terms.place
   pub side : state.side ≡ unheard state.at.parked
   pub phase : state.phase ≡ phase.Ready ready.Idle
 

@@ -91,9 +91,9 @@ phase_flow (phase.Ready (ready.Upgraded flow server)) = Some flow
 phase_flow found = None
 
 -- a side that is connected before a flow begins has a number below the next one's
-abbrev pub IsSideBelow : Place → ℕ → Type 0
-IsSideBelow (places.Fixed address (Some server) inside) following = server < following
-IsSideBelow place following = ⊤
+abbrev pub IsSideBelow : Option Parked → ℕ → Type 0
+IsSideBelow (Some parked) following = parked.server < following
+IsSideBelow None following = ⊤
 
 -- ---- how many answers can still be asked for, if nothing more is taken: a flow asks four hooks and a dial at most
 
@@ -221,5 +221,5 @@ led_by None found = None
 led_by (Some proxy) found = server_dialled found
 
 abbrev pub led_to : Place → Phase → Option Address
-led_to (places.Fixed address side inside) found = led_by inside found
+led_to (places.Fixed address inside) found = led_by inside found
 led_to place found = None

@@ -2,19 +2,20 @@
 use px_message::Address;
 use std::marker::Model;
 
-/// A server's side that is connected, to this address, and that no flow uses.
+/// A server's side that is connected, to this address, and that no flow uses: it is kept for a request that goes there. In a
+/// contract it is what the chain's stage has parked.
 #[derive(Debug, Drop)]
-pub struct Parked {
-    pub server: u32,
+pub struct Kept {
+    pub side: u32,
     pub address: Address,
 }
 
-impl Model for Parked {
+impl Model for Kept {
     ghost use Rattle.px_chain.specs.Stages.{Parked};
 
     ghost Value = { Parked };
 
-    ghost view = { λ p. record { server = p.server; address = p.address } };
+    ghost view = { λ k. record { server = k.side; address = k.address } };
 }
 
 /// The number of a flow, how many servers were dialled before, which is the number of the next one, and the side that waits for a
@@ -23,7 +24,7 @@ impl Model for Parked {
 pub struct At {
     pub flow: u32,
     pub dials: u32,
-    pub parked: Option<Parked>,
+    pub parked: Option<Kept>,
 }
 
 impl Model for At {

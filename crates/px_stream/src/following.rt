@@ -4,7 +4,7 @@ ghost use Rattle.px_stream.specs.Stands.{stage_of};
 ghost use Rattle.px_stream.specs.Turns.{is_dial, requests_behind, side_behind, unless_parked};
 ghost use Rattle.px_read.specs.Reader.{before_all, request};
 
-use crate::at::{At, Parked};
+use crate::at::{At, Kept};
 use crate::link::{self, Link};
 use crate::phase::{Asked, Wanted};
 use px_exchange::asked::is_head;
@@ -118,7 +118,7 @@ pub(crate) fn follow_side(
     }
 }
 
-fn keep_parked(parked: &Option<Parked>, side: &mut Option<Link>)
+fn keep_parked(parked: &Option<Kept>, side: &mut Option<Link>)
     ensures { side.new ≡ unless_parked parked.now side.old }
 {
     if parked.is_none() {

@@ -73,6 +73,6 @@ mod sizes;
 mod stream;
 mod turning;
 
-pub use at::{At, Parked};
+pub use at::{At, Kept};
 pub use px_exchange::{Outcome, Place};
 pub use stream::Stream;

@@ -9,7 +9,7 @@ ghost use Rattle.px_stream.specs.Stands.{unread_link, used_in};
 ghost use Rattle.px_stream.specs.Tells.{closed_in, side_rest};
 ghost use Rattle.px_stream.specs.Turns.{keeps_on, new_side, opened_side};
 
-use crate::at::Parked;
+use crate::at::Kept;
 use px_exchange::ending::{Used, sent_persists};
 use px_message::Request;
 use px_read::MessageReader;
@@ -84,11 +84,11 @@ impl Link {
 }
 
 /// The side that is parked, of which nothing was heard yet, if one is.
-pub fn unheard(alloc: Global, parked: &Option<Parked>) -> Option<Link>
+pub fn unheard(alloc: Global, parked: &Option<Kept>) -> Option<Link>
     ensures { result ≡ unheard parked.now }
 {
     match parked {
-        Some(parked) => Some(Link::new(alloc, parked.server, false)),
+        Some(parked) => Some(Link::new(alloc, parked.side, false)),
         None => None,
     }
 }

@@ -13,7 +13,7 @@ ghost use Rattle.px_bounds.specs.Bounds.{kept_below};
 ghost use Rattle.px_read.specs.Reader.{before_all, keeps, request};
 ghost use Rattle.px_exchange.specs.Places.{terms_of};
 ghost use Rattle.px_exchange.specs.declared.terms.Terms.{Terms as Made};
-ghost use Rattle.px_chain.specs.Chain.{begin as first, look as look_at, parked_of};
+ghost use Rattle.px_chain.specs.Chain.{begin as first, look as look_at};
 ghost use Rattle.px_chain.specs.Sights.{Standing, sight_over};
 ghost use Rattle.px_chain.specs.Stages.{At as Stood, busy, idle};
 ghost use Rattle.px_stream.specs.Heard.{SideAgrees, parked_behind, shut_if, shut_waiting, stray_in};
@@ -26,7 +26,7 @@ ghost use Rattle.px_stream.specs.Passes.{Advances, MayPass, PassesOnce, is_passi
 ghost use Rattle.px_stream.specs.Turns.{Hears, LooksOnce, TurnsTo, is_dial, requests_behind, side_behind, with_open};
 ghost use Rattle.px_stream.specs.Looks.{MayLook};
 
-use crate::at::{At, Parked};
+use crate::at::{At, Kept};
 use crate::following::{follow_requests, follow_side, is_dial};
 use crate::hearing::hear;
 use crate::leaving::{enter, take_asked, take_looked};
@@ -61,8 +61,8 @@ pub struct Stream {
 
 impl Stream {
     /// The flows of a client there, whose requests go to this place. The first one has this number, and the next server that is dialled is the
-    /// one of number `next_server`. Where a side of the place is connected already, it is parked, and its number is below that one. Bodies are
-    /// streamed where an answer allows it and `streams` says so.
+    /// one of number `next_server`. Where a side is kept from before, its number is below that one, and the first request that goes to its
+    /// address takes it. Bodies are streamed where an answer allows it and `streams` says so.
     ///
     /// It stands where flows in sequence begin, and awaits nothing.
     pub fn new(
@@ -70,20 +70,20 @@ impl Stream {
         id: FlowId,
         client: Option<Address>,
         place: Place,
+        kept: Option<Kept>,
         next_server: u32,
         streams: bool,
     ) -> Result<Stream, NoMemory>
         requires few { id.index < 1000000 }
-        requires side { IsSideBelow place next_server }
+        requires side { IsSideBelow kept next_server }
         ensures stands { IfOk result (λ made. (ahead : ℕ) → next_server ≤ id.index + ahead → ahead ≤ 1 →
             IsInSequence made.terms ahead made (first (idle made.at)) []) }
         ensures terms { IfOk result (λ made. made.terms ≡ record (terms_of id.conv client place) { streams = streams }) }
-        ensures at { IfOk result (λ made. made.at ≡ record { flow = id.index; dials = next_server; parked = parked_of place }) }
+        ensures at { IfOk result (λ made. made.at ≡ record { flow = id.index; dials = next_server; parked = kept }) }
         ensures new { IfOk result (λ made. IsNew made) }
         ensures free { IfOk result (λ made. awaits made ≡ None) }
     {
-        let parked = parked_of(&place)?;
-        let side = link::unheard(alloc, &parked);
+        let side = link::unheard(alloc, &kept);
         Ok(Stream {
             alloc,
             terms: Terms {
@@ -95,7 +95,7 @@ impl Stream {
             at: At {
                 flow: id.index,
                 dials: next_server,
-                parked,
+                parked: kept,
             },
             requests: MessageReader::request(alloc),
             client_closed: false,
@@ -325,7 +325,7 @@ impl Stream {
     {
         match &self.at.parked {
             Some(parked) => {
-                let stray = link::hear_stray(&mut self.side, parked.server, waiting);
+                let stray = link::hear_stray(&mut self.side, parked.side, waiting);
                 close_stray(stray, out)
             }
             None => Ok(()),
@@ -609,25 +609,8 @@ fn forget(at: &mut At, side: &Option<Link>)
     }
 }
 
-// The side of its place that is connected, if one is.
-fn parked_of(place: &Place) -> Result<Option<Parked>, NoMemory>
-    ensures { IfOk result (λ parked. parked ≡ parked_of place.now) }
-{
-    match place {
-        Place::Fixed {
-            address,
-            side: Some(server),
-            ..
-        } => Ok(Some(Parked {
-            server: *server,
-            address: address.try_clone()?,
-        })),
-        _ => Ok(None),
-    }
-}
-
 // The number of the parked side, if one is that is kept still.
-fn open_parked(parked: &Option<Parked>, side: &Option<Link>) -> Option<u32>
+fn open_parked(parked: &Option<Kept>, side: &Option<Link>) -> Option<u32>
     ensures { result ≡ open_parked parked.now side.now }
 {
     let Some(parked) = parked else {
@@ -638,7 +621,7 @@ fn open_parked(parked: &Option<Parked>, side: &Option<Link>) -> Option<u32>
             if link.closed {
                 return None;
             }
-            Some(parked.server)
+            Some(parked.side)
         }
         None => None,
     }

@@ -14,7 +14,7 @@ ghost use Rattle.px_stream.specs.Stands.{content_in, stage_of};
 ghost use Rattle.px_stream.specs.Turns.{FirstHeld, GoesUpFrom, HeldFirst, HeldUpFirst, IsHeldBehind, KeepsUp, Shows, SideTurned, asked_turn, connected_up, connects, dialled_sends, keeps_on, taken_turn, turn_gives};
 ghost use Rattle.px_stream.specs.Passes.{SideCame};
 
-use crate::at::{At, Parked};
+use crate::at::{At, Kept};
 use crate::coming::{Held, hold};
 use crate::ending::end_with;
 use crate::going::{Going, Sending, hold_request, send_to};
@@ -256,13 +256,13 @@ fn go_on(
 }
 
 // The number of the parked side, where this request goes to its address.
-pub(crate) fn parked_for(place: &Place, request: &Request, parked: &Option<Parked>) -> Option<u32>
+pub(crate) fn parked_for(place: &Place, request: &Request, parked: &Option<Kept>) -> Option<u32>
     ensures { result ≡ parked_for place.now request.now parked.now }
 {
     match parked {
         Some(parked) => {
             if place.goes_to(&parked.address, request) {
-                Some(parked.server)
+                Some(parked.side)
             } else {
                 None
             }
@@ -689,8 +689,8 @@ pub(crate) fn park(
         at.parked = None;
         return Ok(());
     }
-    at.parked = Some(Parked {
-        server,
+    at.parked = Some(Kept {
+        side: server,
         address: server_for(place, flow)?,
     });
     Ok(())
