@@ -39,7 +39,7 @@ use Rattle.px_stack.specs.declared.child.Goal.{Goal as KeptGoal}
 use Rattle.px_stack.specs.declared.child.Goal.TheVariants as goals
 use Rattle.px_stack.specs.declared.child.Opening.{Opening}
 use Rattle.px_stack.specs.Chain.{asks_proxy, dialled_by, dialled_more, flows_at, stack_chain, turn_connected, turn_dial, turn_http}
-use Rattle.px_stack.specs.Stages.{Dialling, Goal, Link, Stage, Tunnel, Visitor, a_flow, a_tunnel, connecting, http, over, raw, reaching, socket, undecided}
+use Rattle.px_stack.specs.Stages.{Dialling, Goal, Link, Stage, Tunnel, Visitor, a_flow, a_tunnel, asking, connecting, http, over, raw, reaching, socket, undecided}
 use Rattle.px_stack.specs.Stands.{InTime, IsAskedFor, IsChild, IsConnecting, IsGoal, IsInFlows, IsOpening, IsSomewhere, Keeps, KeepsBy, ahead_at}
 use Rattle.px_stack.specs.Steps.{Adds, Arrives, AsksFor, IsAsking, IsFewDials, MayDecide, ResumesChild, Tells}
 use Rattle.px_stack.proofs.HttpLemmas.{is_kept}
@@ -108,6 +108,8 @@ module _ (conv : ℕ) (client : Visitor) (kept : Opening) (closed : Bool) where
   -- what it keeps is kept at no other stage
   at_dial : (P : Stage → Type 0) (stage : Stage) (prefix : List (Timed Event)) → IsChild conv client (children.Connecting kept closed) stage prefix →
       ((tunnel : Tunnel) → IsDialled tunnel prefix kept closed → P (connecting tunnel)) → P stage
+  at_dial P (asking front) prefix there goes =
+      absurd (none_kept (asking front) prefix (λ at. let no : children.Connecting kept closed ≡ children.Asking at.layer = at.is in cc) _ there)
   at_dial P (http place standing) prefix there goes =
       absurd (none_kept (http place standing) prefix (λ at. let no : children.Connecting kept closed ≡ children.Http at.flows = at.is in cc) _ there)
   at_dial P (connecting tunnel) prefix there goes = goes tunnel (is_dialled tunnel prefix kept closed there)

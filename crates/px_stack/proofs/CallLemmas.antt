@@ -11,7 +11,7 @@ use Rattle.px_stack.specs.declared.child.Child.{Child}
 use Rattle.px_stack.specs.declared.child.Child.TheVariants as children
 use Rattle.px_stack.specs.declared.child.Relay.{Relay}
 use Rattle.px_stack.specs.Chain.{is_shut, stack_chain, tunnel_found}
-use Rattle.px_stack.specs.Stages.{Ends as TunnelEnds, Stage, Visitor, connecting, http, over, raw, reaching, socket, undecided}
+use Rattle.px_stack.specs.Stages.{Ends as TunnelEnds, Stage, Visitor, asking, connecting, http, over, raw, reaching, socket, undecided}
 use Rattle.px_stack.specs.Stands.{IsChild, IsRelay, IsSomewhere, Keeps, KeepsBy}
 use Rattle.px_stack.specs.Steps.{Adds, RelayTakes, TakesChild}
 
@@ -28,6 +28,7 @@ same_relay a b is = cc
 
 keeps_relay : (conv : ℕ) (client : Visitor) (kept : Relay) (stage : Stage) (prefix : List (Timed Event)) → Keeps conv client (children.Raw kept) stage prefix →
     IsKeptRelay kept stage prefix
+keeps_relay conv client kept (asking front) prefix is = absurd (let no : children.Raw kept ≡ children.Asking is.layer = is.is in cc)
 keeps_relay conv client kept (http place standing) prefix is = absurd (let no : children.Raw kept ≡ children.Http is.flows = is.is in cc)
 keeps_relay conv client kept (connecting tunnel) prefix is = absurd (let no : children.Raw kept ≡ children.Connecting is.kept is.closed = is.is in cc)
 keeps_relay conv client kept (reaching goal link since) prefix is = absurd (let no : children.Raw kept ≡ children.Reaching is.kept = is.is in cc)
@@ -72,6 +73,7 @@ raw_takes conv client kept child moment event more takes stage prefix is =
 
 -- nothing is kept but there
 keeps_over : (conv : ℕ) (client : Visitor) (stage : Stage) (prefix : List (Timed Event)) → Keeps conv client children.Over stage prefix → ⊥
+keeps_over conv client (asking front) prefix is = let no : children.Over ≡ children.Asking is.layer = is.is in cc
 keeps_over conv client (http place standing) prefix is = let no : children.Over ≡ children.Http is.flows = is.is in cc
 keeps_over conv client (connecting tunnel) prefix is = let no : children.Over ≡ children.Connecting is.kept is.closed = is.is in cc
 keeps_over conv client (reaching goal link since) prefix is = let no : children.Over ≡ children.Reaching is.kept = is.is in cc

@@ -239,8 +239,8 @@ record LeavesRoom (place : Place) : Type 0 where
   asks : tunnel_left place ≡ connecting_left
 
 leaves_room : (place : Place) (seen : Sight) (connects : Connect) → connect_in place (request_in seen) ≡ Some connects → LeavesRoom place
-leaves_room (places.Fixed address side inside) seen connects is =
-    absurd (let no : None ≡ Some connects = sym (never_connects address side inside (request_in seen)) ∙ is in cc)
+leaves_room (places.Fixed address inside) seen connects is =
+    absurd (let no : None ≡ Some connects = sym (never_connects address inside (request_in seen)) ∙ is in cc)
 leaves_room places.Regular seen connects is = record { none_ahead = refl; asks = refl }
 leaves_room (places.Upstream proxy) seen connects is = record { none_ahead = refl; asks = refl }
 
@@ -379,7 +379,7 @@ begun_passes conv client false flow moment ends prefix = refl
 
 -- what is left for a WebSocket is left for it everywhere
 socket_room : (place : Place) → most_asked ≤ tunnel_left place
-socket_room (places.Fixed address side inside) = omega arith
+socket_room (places.Fixed address inside) = omega arith
 socket_room places.Regular = omega arith
 socket_room (places.Upstream proxy) = omega arith
 

@@ -23,7 +23,7 @@ use Rattle.px_stack.specs.declared.child.Child.{Child}
 use Rattle.px_stack.specs.declared.child.Child.TheVariants as children
 use Rattle.px_stack.specs.Chain.{flows_at, stack_chain, turn_flows, follows_to}
 use Rattle.px_stack.specs.Kept.{http_keeps_no_body, kept_by, left_by, tunnel_left}
-use Rattle.px_stack.specs.Stages.{Stage, Visitor, connecting, http, over, raw, reaching, socket, undecided}
+use Rattle.px_stack.specs.Stages.{Stage, Visitor, asking, connecting, http, over, raw, reaching, socket, undecided}
 use Rattle.px_stack.specs.Stands.{InTime, StaysInTime, IsChild, IsInFlows, IsSomewhere, Keeps, KeepsBy, ahead_at}
 use Rattle.px_stack.specs.Steps.{Follows, IsPlain, ResumesChild, TakesChild}
 use Rattle.px_stack.proofs.LedLemmas.{plain_turn}
@@ -47,6 +47,7 @@ keeps_http : (conv : ℕ) (client : Visitor) (boxed : Box HttpConv) (stage : Sta
 keeps_http conv client boxed (http place standing) prefix is =
     let P : Box HttpConv → Type 0 = λ b. IsInFlows conv client place b.value standing prefix in
     record { place = place; standing = standing; is = refl; there = subst P (sym (same_box boxed is.flows is.is)) is.there; in_time = is.in_time }
+keeps_http conv client boxed (asking front) prefix is = absurd (let no : children.Http boxed ≡ children.Asking is.layer = is.is in cc)
 keeps_http conv client boxed (connecting tunnel) prefix is = absurd (let no : children.Http boxed ≡ children.Connecting is.kept is.closed = is.is in cc)
 keeps_http conv client boxed (reaching goal link since) prefix is = absurd (let no : children.Http boxed ≡ children.Reaching is.kept = is.is in cc)
 keeps_http conv client boxed (undecided tunnel link since) prefix is = absurd (let no : children.Http boxed ≡ children.Undecided is.kept is.server = is.is in cc)

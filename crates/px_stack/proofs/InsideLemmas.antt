@@ -35,18 +35,20 @@ use Rattle.px_stack.proofs.TimeLemmas.{open_in_time}
 -- ---- HTTP begins in a tunnel
 
 -- where its requests go
-abbrev place_in : Opening → ℕ → Place
-place_in kept server = places.Fixed kept.address (Some server) kept.proxy
+abbrev place_in : Opening → Place
+place_in kept = places.Fixed kept.address kept.proxy
 
-same_place : (tunnel : Tunnel) (link : Link) (kept : Opening) (server : ℕ) → kept.address ≡ tunnel.address → server ≡ link.server → kept.proxy ≡ tunnel.proxy →
-    place_in kept server ≡ inner_place tunnel link
-same_place tunnel link kept server at is through =
-    ap (λ a. places.Fixed a (Some server) kept.proxy) at
-    ∙ (ap (λ n. places.Fixed tunnel.address (Some n) kept.proxy) is ∙ ap (λ p. places.Fixed tunnel.address (Some link.server) p) through)
+same_place : (tunnel : Tunnel) (link : Link) (kept : Opening) → kept.address ≡ tunnel.address → kept.proxy ≡ tunnel.proxy → place_in kept ≡ inner_place tunnel link
+same_place tunnel link kept at through = ap (λ a. places.Fixed a kept.proxy) at ∙ ap (λ p. places.Fixed tunnel.address p) through
 
 -- and where it begins: the server's side is parked
 abbrev new_at : Opening → ℕ → At
 new_at kept server = record { flow = kept.flow; dials = kept.dials; parked = Some (record { server = server; address = kept.address }) }
+
+-- with a copy of its address
+pub at_copied : (kept : Opening) (server : ℕ) (copy : Address) → copy ≡ kept.address →
+    (let at : At = record { flow = kept.flow; dials = kept.dials; parked = Some (record { server = server; address = copy }) } in at) ≡ new_at kept server
+at_copied kept server copy is = ap (λ a. let at : At = record { flow = kept.flow; dials = kept.dials; parked = Some (record { server = server; address = a }) } in at) is
 
 at_as : (flow flow' dials dials' server server' : ℕ) (address address' : Address) → flow ≡ flow' → dials ≡ dials' → server ≡ server' → address ≡ address' →
     (let a : At = record { flow = flow; dials = dials; parked = Some (record { server = server; address = address }) } in a)
@@ -54,7 +56,7 @@ at_as : (flow flow' dials dials' server server' : ℕ) (address address' : Addre
 at_as flow flow' dials dials' server server' address address' p q s t = rw (p, q, s, t) refl
 
 module _ (conv : ℕ) (client : Visitor) (kept : Opening) (server : ℕ) (rest : List ℕ) (moment : ℕ) (before : Stream)
-    (terms : before.terms ≡ terms_of conv client.address (place_in kept server))
+    (terms : before.terms ≡ terms_of conv client.address (place_in kept))
     (there : before.at ≡ new_at kept server) where
   may_begin : (tunnel : Tunnel) (link : Link) (since : Since) (prefix : List (Timed Event)) → MayDecide tunnel link since prefix kept server rest false moment →
       MayBegin (terms_of conv client.address (inner_place tunnel link)) 1 before moment false kept.rest rest (inner_standing tunnel link since) prefix
@@ -69,7 +71,7 @@ module _ (conv : ℕ) (client : Visitor) (kept : Opening) (server : ℕ) (rest :
       let C : At → Type 0 = IsCounted 1 in
       let W : At → Type 0 = λ a. Waits a.parked (sight_over (inner_standing tunnel link since) prefix) rest in
       record {
-        terms = terms ∙ ap (λ p. terms_of conv client.address p) (same_place tunnel link kept server opening.address at.opened.same opening.proxy);
+        terms = terms ∙ ap (λ p. terms_of conv client.address p) (same_place tunnel link kept opening.address opening.proxy);
         stage = ap idle (sym is_there);
         few = subst C (sym is_there) (record { few = opening.few; dials = few_dials });
         small = omega arith;
@@ -136,7 +138,7 @@ idle_left flow = omega arith
 -- ---- what the function gives
 
 module _ (conv : ℕ) (client : Visitor) (kept : Opening) (server : ℕ) (rest : List ℕ) (moment : ℕ) (key : List ℕ) (keyed : client.key ≡ key) (before : Stream)
-    (terms : before.terms ≡ terms_of conv client.address (place_in kept server))
+    (terms : before.terms ≡ terms_of conv client.address (place_in kept))
     (there : before.at ≡ new_at kept server)
     (after : HttpConv) (out mid longer : List Command) (begins : Begins before after.stream moment false kept.rest rest out mid) where
   -- whose key is the client's

@@ -101,9 +101,9 @@ none_at : (conv : ℕ) (client : Visitor) (place : Place) (flows : HttpConv) (st
     IsInFlows conv client place flows standing prefix → led_to place flows.stream.phase ≡ None → led_at place standing ≡ None
 none_at conv client places.Regular flows standing prefix at none = refl
 none_at conv client (places.Upstream proxy) flows standing prefix at none = refl
-none_at conv client (places.Fixed address side None) flows standing prefix at none = refl
-none_at conv client (places.Fixed address side (Some proxy)) flows standing prefix at none =
-    none_led (terms_of conv client.address (places.Fixed address side (Some proxy))) flows.stream.at flows.stream.requests flows.stream.side flows.stream.phase
+none_at conv client (places.Fixed address None) flows standing prefix at none = refl
+none_at conv client (places.Fixed address (Some proxy)) flows standing prefix at none =
+    none_led (terms_of conv client.address (places.Fixed address (Some proxy))) flows.stream.at flows.stream.requests flows.stream.side flows.stream.phase
     (sight_over standing prefix) standing.used.client standing.stage
     at.is_at.is_in.phase none
 
@@ -168,11 +168,11 @@ same_address : (a b : Address) → Some a ≡ Some b → b ≡ a
 same_address a b is = cc
 
 module _ (conv : ℕ) (client : Visitor) (flows : HttpConv) (standing : Standing) (prefix : List (Timed Event)) (to : Address) where
-  led_on : (address : Address) (side : Option ℕ) (proxy : Address) →
-      IsInFlows conv client (places.Fixed address side (Some proxy)) flows standing prefix → server_dialled flows.stream.phase ≡ Some to →
-      IsLed (places.Fixed address side (Some proxy)) flows standing to
-  led_on address side proxy at is =
-      let place : Place = places.Fixed address side (Some proxy) in
+  led_on : (address : Address) (proxy : Address) →
+      IsInFlows conv client (places.Fixed address (Some proxy)) flows standing prefix → server_dialled flows.stream.phase ≡ Some to →
+      IsLed (places.Fixed address (Some proxy)) flows standing to
+  led_on address proxy at is =
+      let place : Place = places.Fixed address (Some proxy) in
       let dials = led_dials (Some proxy) flows.stream.phase to is in
       let there = is_at_dial (terms_of conv client.address place) flows.stream standing.stage (sight_over standing prefix) dials at.is_at.is_in in
       let flow_is : dialled_flow flows.stream.phase ≡ Some there.flow =
@@ -196,5 +196,5 @@ module _ (conv : ℕ) (client : Visitor) (flows : HttpConv) (standing : Standing
       by : (place : Place) → IsInFlows conv client place flows standing prefix → led_to place flows.stream.phase ≡ Some to → IsLed place flows standing to
       by places.Regular at is = absurd (let no : None ≡ Some to = is in cc)
       by (places.Upstream proxy) at is = absurd (let no : None ≡ Some to = is in cc)
-      by (places.Fixed address side None) at is = absurd (let no : None ≡ Some to = is in cc)
-      by (places.Fixed address side (Some proxy)) at is = led_on address side proxy at is
+      by (places.Fixed address None) at is = absurd (let no : None ≡ Some to = is in cc)
+      by (places.Fixed address (Some proxy)) at is = led_on address proxy at is

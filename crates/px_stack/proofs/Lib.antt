@@ -11,6 +11,7 @@ pub mod CallLemmas
 pub mod LedLemmas
 pub mod ReachingLemmas
 pub mod AskLemmas
+pub mod AskingLemmas
 pub mod LetLemmas
 pub mod GoalLemmas
 pub mod TellLemmas

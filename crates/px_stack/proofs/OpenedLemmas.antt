@@ -28,7 +28,7 @@ use Rattle.px_stack.specs.Chain.{begun, closes_all, flows_at, follows, goes_by, 
 use Rattle.px_stack.specs.Decides.{Decision, decided, decided_by, has_method, is_http, is_raw, may_have_method, still}
 use Rattle.px_stack.specs.Kept.{awaited_by}
 use Rattle.px_stack.specs.Laws.{never_connects}
-use Rattle.px_stack.specs.Stages.{Link, Stage, Tunnel, Visitor, connecting, http, over, raw, reaching, socket, undecided}
+use Rattle.px_stack.specs.Stages.{Link, Stage, Tunnel, Visitor, asking, connecting, http, over, raw, reaching, socket, undecided}
 use Rattle.px_stack.specs.Stands.{IsChild, IsOpened, IsUndecided, Keeps, KeepsBy}
 use Rattle.px_stack.specs.Steps.{Adds, Arrives, Decides, GoesInside, MayDecide, MayRelay, Relays, TakesChild, sides_closed}
 use Rattle.px_stack.proofs.DecideLemmas.{answer_decides}
@@ -92,7 +92,7 @@ module _ (conv : ℕ) (client : Visitor) (next : Child) (more : List Command) (t
   none_handed =
       let inner : Standing = inner_standing tunnel link since in
       ap (tunnel_for (inner_place tunnel link) tunnel.used (unspoilt_at (place_of inner.stage) (sight_over inner prefix)))
-      (never_connects tunnel.address (Some link.server) tunnel.proxy (request_in (sight_over (inner_standing tunnel link since) prefix)))
+      (never_connects tunnel.address tunnel.proxy (request_in (sight_over (inner_standing tunnel link since) prefix)))
 
   arrives_http : client_closed prefix ≡ false → decided (opening_text tunnel prefix) (has_answered link prefix) ≡ is_http →
       Arrives conv client next more (http (inner_place tunnel link) (inner_standing tunnel link since)) prefix →
@@ -252,6 +252,8 @@ module _ (conv : ℕ) (client : Visitor) (kept : Opening) (server : ℕ) where
 
   at_still : (P : Stage → Type 0) (stage : Stage) (prefix : List (Timed Event)) → IsChild conv client (children.Undecided kept server) stage prefix →
       ((tunnel : Tunnel) (link : Link) (since : Since) → IsStill tunnel link since prefix kept server → P (undecided tunnel link since)) → P stage
+  at_still P (asking front) prefix there goes =
+      absurd (none_kept (asking front) prefix (λ at. let no : children.Undecided kept server ≡ children.Asking at.layer = at.is in cc) _ there)
   at_still P (http place standing) prefix there goes =
       absurd (none_kept (http place standing) prefix (λ at. let no : children.Undecided kept server ≡ children.Http at.flows = at.is in cc) _ there)
   at_still P (connecting tunnel) prefix there goes =

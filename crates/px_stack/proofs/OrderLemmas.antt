@@ -41,13 +41,17 @@ use Rattle.px_relay.specs.Messages.{Message}
 use Rattle.px_relay.specs.Sending.{Terms}
 use Rattle.px_relay.specs.Sights.{Sight as SocketSight}
 use Rattle.px_relay.specs.Stages.{At as MessageAt, Stage as Frames, holding, over as ended, relaying}
+use Rattle.px_socks.specs.Chain as socks
+use Rattle.px_socks.specs.FrontLaws.{AllToClient, pass_to_client, turn_to_client}
+use Rattle.px_socks.specs.Stages as fronts
+use Rattle.px_socks.specs.Stages.{Stage as Front}
 use Rattle.px_stream.specs.Anywhere.{reached_owes}
-use Rattle.px_stack.specs.Chain.{answer_of, asks_proxy, begun, closed_before, closed_of, closes_all, dialled_by, finished_flow, flows_at, follows, goes_by, hands_by, hands_over, has_answered, is_shut, led_at, led_by, opening_text, or_stays, owed_at_handing, shut_parked, pass_http, pass_reached, pass_socket, raw_look, socket_sight, socket_terms, stack_chain, tunnel_for, tunnel_found, turn_connected, turn_dial, turn_flows, turn_http, upgrades, used_proxy, way_to, connected_on}
+use Rattle.px_stack.specs.Chain.{answer_of, asks_proxy, at_front, begins_by, begun, behind_front, closed_before, closed_of, closes_all, dialled_by, finished_flow, flows_at, follows, front_sight, goes_by, hands_by, hands_over, has_answered, is_shut, led_at, led_by, opening_text, or_stays, owed_at_handing, shut_parked, pass_front, pass_http, pass_reached, pass_socket, raw_look, socket_sight, socket_terms, stack_chain, tunnel_for, tunnel_found, turn_connected, turn_dial, turn_flows, turn_front, turn_http, upgrades, used_proxy, way_to, connected_on}
 use Rattle.px_stack.specs.Decides.{Decision, decided, is_http, is_raw, still}
 use Rattle.px_stack.specs.Frames.{AreSaid, IsOver, pass_says, turn_says}
 use Rattle.px_stack.specs.Laws.{handing_owes}
 use Rattle.px_stack.specs.Sockets.{is_websocket}
-use Rattle.px_stack.specs.Stages.{Dialling, Ends as TunnelEnds, Goal, Link, Stage, Tunnel, Visitor, a_flow, a_tunnel, connecting, http, over, raw, reaching, socket, undecided}
+use Rattle.px_stack.specs.Stages.{Dialling, Ends as TunnelEnds, Goal, Link, Stage, Tunnel, Visitor, a_flow, a_tunnel, asking, connecting, http, over, raw, reaching, socket, undecided}
 
 -- ---- the tests
 
@@ -71,7 +75,9 @@ is_behind_frames (relaying at) own index = nat_lt index own
 is_behind_frames (holding from message at) own index = nat_lt index own
 is_behind_frames ended own index = true
 
+-- a client of SOCKS is past none
 abbrev pub is_behind : Stage → ℕ → Bool
+is_behind (asking front) index = false
 is_behind (http place standing) index = is_past_at standing index
 is_behind (connecting tunnel) index = nat_lt index tunnel.at.flow
 is_behind (reaching goal link since) index = is_behind_goal goal index
@@ -167,6 +173,18 @@ sends_still side text owed is = record { ordered = is.ordered; none = is.none; e
 
 nothing_still : IsStill []
 nothing_still = record { ordered = tt; none = λ index. tt; ends = λ index e. e }
+
+-- what a client of SOCKS is told
+clients_still : (owed : List Command) → AllToClient owed → IsStill owed
+clients_still [] are = nothing_still
+clients_still (commands.Send Client text ∷ owed) (here, are) = sends_still Client text owed (clients_still owed are)
+clients_still (commands.Send (Server server) text ∷ owed) (here, are) = absurd here
+clients_still (commands.Close Client ∷ owed) (here, are) =
+    let still = clients_still owed are in record { ordered = still.ordered; none = still.none; ends = still.ends }
+clients_still (commands.Close (Server server) ∷ owed) (here, are) = absurd here
+clients_still (commands.Dial server address inside ∷ owed) (here, are) = absurd here
+clients_still (commands.Ask ask flow ∷ owed) (here, are) = absurd here
+clients_still (commands.Done flow ∷ owed) (here, are) = absurd here
 
 -- the end of the flow that became a tunnel, before its closes
 record AsksNothing (owed : List Command) : Type 0 where
@@ -296,6 +314,63 @@ module _ (conv : ℕ) (client : Visitor) where
     leads = leads;
   }
 
+  -- a client of SOCKS is past no flow, and so is what it leads to
+  front_leaves : (front : Front) (owed : List Command) (to : Stage) → IsStill owed → is_counted to ≡ true → Leaves (asking front) owed to
+  front_leaves front owed to is leads = record {
+    ordered = is.ordered;
+    asks_none = λ index before. is.none index;
+    ends = λ index ends. absurd (is.ends index ends);
+    keeps = λ index before. absurd (let no : false ≡ true = before in cc);
+    leads = leads;
+  }
+
+  front_counted : (front : Front) → is_counted (at_front front) ≡ true
+  front_counted fronts.greeting = refl
+  front_counted (fronts.requesting used) = refl
+  front_counted (fronts.dialling used address) = refl
+  front_counted (fronts.opened used address) = refl
+  front_counted fronts.over = refl
+
+  front_passes : (front : Front) (prefix : List (Timed Event)) → Leaves (asking front) (pass_front front prefix).owed (pass_front front prefix).stage
+  front_passes front prefix =
+      let on : Turn Front Command = socks.pass front (front_sight prefix) in
+      front_leaves front on.owed (at_front on.stage) (clients_still on.owed (pass_to_client front (front_sight prefix))) (front_counted on.stage)
+
+  behind_counted : (on : Turn Front Command) (prefix : List (Timed Event)) (moment : ℕ) → is_counted (turn_front conv client on prefix moment).stage ≡ true
+  behind_counted on prefix moment = by on.stage
+    where
+      by : (front : Front) → is_counted (behind_front conv client front prefix moment) ≡ true
+      by fronts.greeting = refl
+      by (fronts.requesting used) = refl
+      by (fronts.dialling used address) = refl
+      by (fronts.opened used address) = refl
+      by fronts.over = refl
+
+  front_turned : (used : ℕ) (address : Address) (ask : Command) (on : Turn Front Command) (prefix : List (Timed Event)) (moment : ℕ) → AllToClient on.owed →
+      Asks (commands.Dial 0 address None) ≡ Asks ask → Leaves (asking (fronts.dialling used address)) (ask ∷ on.owed) (turn_front conv client on prefix moment).stage
+  front_turned used address ask on prefix moment are asked =
+      let to : Stage = (turn_front conv client on prefix moment).stage in
+      let same : commands.Dial 0 address None ≡ ask = cc in
+      let P : Command → Type 0 = λ c. Leaves (asking (fronts.dialling used address)) (c ∷ on.owed) to in
+      subst P same
+      (front_leaves (fronts.dialling used address) (commands.Dial 0 address None ∷ on.owed) to (dials_still 0 address on.owed (clients_still on.owed are)) (behind_counted on prefix moment))
+
+  front_turns : (front : Front) (ask : Command) (closed : Bool) (answer : Reply) (prefix : List (Timed Event)) (moment : ℕ) → socks.look front ≡ Asks ask →
+      (let on : Turn Front Command = socks.turn front closed answer in Leaves (asking front) (ask ∷ on.owed) (turn_front conv client on prefix moment).stage)
+  front_turns fronts.greeting ask closed answer prefix moment asked = absurd (let no : NotYet ≡ Asks ask = asked in cc)
+  front_turns (fronts.requesting used) ask closed answer prefix moment asked = absurd (let no : NotYet ≡ Asks ask = asked in cc)
+  front_turns (fronts.dialling used address) ask closed answer prefix moment asked =
+      front_turned used address ask (socks.turn (fronts.dialling used address) closed answer) prefix moment (turn_to_client (fronts.dialling used address) closed answer) asked
+  front_turns (fronts.opened used address) ask closed answer prefix moment asked = absurd (let no : Ends [] ≡ Asks ask = asked in cc)
+  front_turns fronts.over ask closed answer prefix moment asked = absurd (let no : Ends [] ≡ Asks ask = asked in cc)
+
+  front_stops : (front : Front) (prefix : List (Timed Event)) → LeavesNone is_behind (asking front) (found_at (stack_chain conv client) (asking front) prefix)
+  front_stops fronts.greeting prefix = record { ordered = tt; asks_none = λ index before. tt }
+  front_stops (fronts.requesting used) prefix = record { ordered = tt; asks_none = λ index before. tt }
+  front_stops (fronts.dialling used address) prefix = record { ordered = tt; asks_none = λ index before. tt }
+  front_stops (fronts.opened used address) prefix = record { ordered = tt; asks_none = λ index before. tt }
+  front_stops fronts.over prefix = record { ordered = tt; asks_none = λ index before. tt }
+
   -- what follows is past what the tunnel is past
   follows_behind : (d : Decision) (tunnel : Tunnel) (link : Link) (since : Since) (index : ℕ) → nat_lt index tunnel.at.flow ≡ true →
       is_behind (follows d tunnel link since) index ≡ true
@@ -395,6 +470,7 @@ module _ (conv : ℕ) (client : Visitor) where
   socket_passes ends flow ended prefix = socket_leaves ends flow ended ended [] tt (λ index before. before)
 
   begun_leaves : (stage : Stage) (prefix : List (Timed Event)) → is_counted stage ≡ true → Leaves stage (begun conv client stage prefix).owed (begun conv client stage prefix).stage
+  begun_leaves (asking front) prefix is = quietly (asking front) (asking front) (λ index before. before) refl
   begun_leaves (http place standing) prefix is = quietly (http place standing) (http place standing) (λ index before. before) is
   begun_leaves (connecting tunnel) prefix is = quietly (connecting tunnel) (connecting tunnel) (λ index before. before) refl
   begun_leaves (reaching goal link since) prefix is = quietly (reaching goal link since) (reaching goal link since) (λ index before. before) is
@@ -449,6 +525,7 @@ module _ (conv : ℕ) (client : Visitor) where
 
   passes : (stage : Stage) (prefix : List (Timed Event)) → is_counted stage ≡ true →
       Leaves stage ((stack_chain conv client).pass stage prefix).owed ((stack_chain conv client).pass stage prefix).stage
+  passes (asking front) prefix is = front_passes front prefix
   passes (http place standing) prefix is = http_passes place standing prefix is
   passes (connecting tunnel) prefix is = quietly (connecting tunnel) (connecting tunnel) (λ index before. before) refl
   passes (reaching goal link since) prefix is = reached_leaves goal link since prefix (answer_of link prefix) is
@@ -523,8 +600,8 @@ module _ (conv : ℕ) (client : Visitor) where
   led_is : (place : Place) (standing : Standing) → IsLed standing.stage (led_at place standing)
   led_is places.Regular standing = tt
   led_is (places.Upstream proxy) standing = tt
-  led_is (places.Fixed address side None) standing = tt
-  led_is (places.Fixed address side (Some proxy)) standing = led_is_by standing.used.client standing.stage
+  led_is (places.Fixed address None) standing = tt
+  led_is (places.Fixed address (Some proxy)) standing = led_is_by standing.used.client standing.stage
 
   -- there it owes the close of a parked side of which a byte came, the dial, and behind that the close of one that is still kept
   abbrev closes_behind : At → Sight → List Command
@@ -625,6 +702,7 @@ module _ (conv : ℕ) (client : Visitor) where
       (answer : Timed Reply) →
       Leaves stage ((stack_chain conv client).so_far stage prefix ++ ask ∷ ((stack_chain conv client).behind stage prefix ++ ((stack_chain conv client).turn stage prefix answer).owed))
       ((stack_chain conv client).turn stage prefix answer).stage
+  turns (asking front) prefix ask is asked answer = front_turns front ask (client_closed prefix) answer.value prefix answer.moment asked
   turns (http place standing) prefix ask is asked answer =
       http_turns (led_at place standing) place standing prefix ask answer answer.value (led_is place standing) is asked
   turns (connecting tunnel) prefix ask is asked answer =
@@ -655,6 +733,7 @@ module _ (conv : ℕ) (client : Visitor) where
 
   stops : (stage : Stage) (prefix : List (Timed Event)) → is_counted stage ≡ true →
       LeavesNone is_behind stage ((stack_chain conv client).so_far stage prefix ++ found_at (stack_chain conv client) stage prefix)
+  stops (asking front) prefix is = front_stops front prefix
   stops (http place standing) prefix is =
       let here = (flows_leave place).stops standing prefix is in record { ordered = here.ordered; asks_none = here.asks_none }
   stops (connecting tunnel) prefix is =
@@ -678,3 +757,8 @@ module _ (conv : ℕ) (client : Visitor) where
   -- What is due asks no hook of a flow behind its end.
   pub ordered_from : (start : Stage) → is_counted start ≡ true → (moves : List Move) → AsksBeforeEnds (due_by (stack_chain conv client) start moves)
   ordered_from start is moves = leaving_ordered (stack_chain conv client) is_counted is_behind stack_leaves start is (events_in 1 moves) (replies_in 1 moves)
+
+-- a conversation begins at such a stage
+pub begun_counted : (place : Option Place) → is_counted (begins_by place) ≡ true
+begun_counted None = refl
+begun_counted (Some place) = refl

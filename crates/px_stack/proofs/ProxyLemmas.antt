@@ -52,10 +52,10 @@ use Rattle.px_stack.specs.Laws.{handing_owes, never_connects}
 use Rattle.px_stack.specs.Modes.{mode_due}
 use Rattle.px_stack.specs.Proxies.{DecidesNothing, HasNotAnswered, IsOneRequest, for_tunnel, in_full, in_part, is_none, said_of}
 use Rattle.px_stack.specs.Sockets.{is_websocket}
-use Rattle.px_stack.specs.Stages.{Dialling, Ends as TunnelEnds, Goal, Link, Stage, Tunnel, Visitor, a_flow, a_tunnel, connecting, http, over, raw, reaching, socket, undecided}
+use Rattle.px_stack.specs.Stages.{Dialling, Ends as TunnelEnds, Goal, Link, Stage, Tunnel, Visitor, a_flow, a_tunnel, asking, connecting, http, over, raw, reaching, socket, undecided}
 use Rattle.px_stack.proofs.AnswerLemmas.{answers_without, bytes_decide, grants_not, nothing_before, nothing_within, said_in, said_more, text_decides}
 use Rattle.px_stack.proofs.ProxyFlowLemmas.{ConnectsNone, FlowApart, FlowUntold, SeesNothing, Untold, not_up, onward_untold, pass_apart, passed_untold, send_silent, sequence_apart, stage_begins_apart, turn_apart, turn_silent, unanswered}
-use Rattle.px_stack.proofs.SilentLemmas.{AllBelow, client_silent, finished_silent, closes_silent, found_silent, frames_silent, parked_silent, said_silent, stack_counts, stray_silent}
+use Rattle.px_stack.proofs.SilentLemmas.{AllBelow, client_silent, finished_silent, closes_silent, found_silent, frames_silent, front_silent, parked_silent, said_silent, stack_counts, stray_silent}
 
 -- the flows of mode upstream begin with no side parked, and none dialled
 abbrev is_in_sequence : IsOnward sequence
@@ -86,18 +86,18 @@ module _ (server : ℕ) where
   abbrev IsThrough : Place → Type 0
   IsThrough places.Regular = ⊥
   IsThrough (places.Upstream proxy) = ⊤
-  IsThrough (places.Fixed address side inside) = IsVia inside
+  IsThrough (places.Fixed address inside) = IsVia inside
 
   -- HTTP inside a tunnel, whose servers are reached through another proxy
   abbrev IsInside : Place → Type 0
   IsInside places.Regular = ⊥
   IsInside (places.Upstream proxy) = ⊥
-  IsInside (places.Fixed address side inside) = IsVia inside
+  IsInside (places.Fixed address inside) = IsVia inside
 
   abbrev is_inside : Place → Bool
   is_inside places.Regular = false
   is_inside (places.Upstream proxy) = false
-  is_inside (places.Fixed address side inside) = true
+  is_inside (places.Fixed address inside) = true
 
   -- ---- a request that is sent to a server that was dialled
 
@@ -128,7 +128,9 @@ module _ (server : ℕ) where
   GoalApart (a_tunnel tunnel) = IsVia tunnel.proxy
   GoalApart (a_flow place from) = IsInside place
 
+  -- No client speaks SOCKS there.
   abbrev IsApart : Stage → Type 0
+  IsApart (asking front) = ⊥
   IsApart (http place standing) = IsThrough place × FlowApart server (is_inside place) standing.stage
   IsApart (connecting tunnel) = IsVia tunnel.proxy
   IsApart (reaching goal link since) = GoalApart goal
@@ -164,9 +166,10 @@ module _ (server : ℕ) where
     abbrev PlaceTold : List (Timed Event) → List ℕ → Place → Standing → Type 0
     PlaceTold prefix text places.Regular standing = ⊥
     PlaceTold prefix text (places.Upstream proxy) standing = IsSaid proxy standing prefix text
-    PlaceTold prefix text (places.Fixed address side inside) standing = IsOneRequest text × FlowUntold server text standing.stage
+    PlaceTold prefix text (places.Fixed address inside) standing = IsOneRequest text × FlowUntold server text standing.stage
 
     abbrev StageTold : List (Timed Event) → List ℕ → Stage → Type 0
+    StageTold prefix text (asking front) = ⊥
     StageTold prefix text (http place standing) = PlaceTold prefix text place standing
     StageTold prefix text (connecting tunnel) = IsTold text tunnel.at.dials
     StageTold prefix text (reaching goal link since) = GoalTold text goal
@@ -188,10 +191,11 @@ module _ (server : ℕ) where
 
     -- one event more changes nothing of that
     more_told : (stage : Stage) (prefix : List (Timed Event)) (event : Timed Event) (before : List Command) → StageTold prefix (sent_in before) stage → StageTold (prefix ++ event ∷ []) (sent_in before) stage
+    more_told (asking front) prefix event before told = told
     more_told (http places.Regular standing) prefix event before told = told
     more_told (http (places.Upstream proxy) standing) prefix event before told =
         said_heard sequence is_in_sequence (terms_of conv client.address (places.Upstream proxy)) None 0 server standing prefix before event told
-    more_told (http (places.Fixed address side inside) standing) prefix event before told = told
+    more_told (http (places.Fixed address inside) standing) prefix event before told = told
     more_told (connecting tunnel) prefix event before told = told
     more_told (reaching goal link since) prefix event before told = told
     more_told (undecided tunnel link since) prefix event before told = told
@@ -230,10 +234,10 @@ module _ (server : ℕ) where
           Stays prefix text (or_stays (http place standing) (tunnel_for place used at (connect_in place item)))
       connect_stays places.Regular standing used at item is told = absurd is.apart.0
       connect_stays (places.Upstream proxy) standing used at item is told = tunnel_stays (places.Upstream proxy) standing used at (connect_in (places.Upstream proxy) item) is tt told
-      connect_stays (places.Fixed address side inside) standing used at item is told =
-          let place : Place = places.Fixed address side inside in
+      connect_stays (places.Fixed address inside) standing used at item is told =
+          let place : Place = places.Fixed address inside in
           let P : Option Connect → Type 0 = λ c. Stays prefix text (or_stays (http place standing) (tunnel_for place used at c)) in
-          subst P (sym (never_connects address side inside item)) is
+          subst P (sym (never_connects address inside item)) is
 
       upgrades_stay : (is : Bool) (flow : Flow) (moment : ℕ) (ends : TunnelEnds) → ends.link.server ≢ server → IsOneRequest text → Stays prefix text (upgrades is flow moment ends)
       upgrades_stay true flow moment ends apart one = record { apart = apart; told = one }
@@ -321,6 +325,7 @@ module _ (server : ℕ) where
           socket_goes prefix told ends flow _ one apart (pass_says (socket_terms client.key ends flow) (socket_sight ends prefix) frames)
 
       begun_goes : (stage : Stage) (prefix : List (Timed Event)) (told : List ℕ) → Stays prefix told stage → Goes prefix told (begun conv client stage prefix)
+      begun_goes (asking front) prefix told is = absurd is.apart
       begun_goes (http place standing) prefix told is = quietly prefix told [] (http place standing) refl is
       begun_goes (connecting tunnel) prefix told is = quietly prefix told [] (connecting tunnel) refl is
       begun_goes (reaching goal link since) prefix told is = quietly prefix told [] (reaching goal link since) refl is
@@ -350,10 +355,10 @@ module _ (server : ℕ) where
           (begun_goes next prefix told (hands_stay prefix told false place on.stage (sequence to) (sight_over on.stage prefix) there apart hands)))
 
       -- and those inside a tunnel
-      inside_passes : (address : Address) (side : Option ℕ) (inside : Option Address) (standing : Standing) (prefix : List (Timed Event)) →
-          Stays prefix text (http (places.Fixed address side inside) standing) → Goes prefix text (pass_flows conv client (places.Fixed address side inside) standing prefix)
-      inside_passes address side inside standing prefix is =
-          let place : Place = places.Fixed address side inside in
+      inside_passes : (address : Address) (inside : Option Address) (standing : Standing) (prefix : List (Timed Event)) →
+          Stays prefix text (http (places.Fixed address inside) standing) → Goes prefix text (pass_flows conv client (places.Fixed address inside) standing prefix)
+      inside_passes address inside standing prefix is =
+          let place : Place = places.Fixed address inside in
           let terms = terms_of conv client.address place in
           let on = (flows_at conv client place).pass standing prefix in
           let seen : Sight = sight_over standing prefix in
@@ -372,7 +377,7 @@ module _ (server : ℕ) where
       http_passes : (place : Place) (standing : Standing) (prefix : List (Timed Event)) → Stays prefix text (http place standing) → Goes prefix text (pass_flows conv client place standing prefix)
       http_passes places.Regular standing prefix is = absurd is.apart.0
       http_passes (places.Upstream proxy) standing prefix is = upstream_passes proxy standing prefix is
-      http_passes (places.Fixed address side inside) standing prefix is = inside_passes address side inside standing prefix is
+      http_passes (places.Fixed address inside) standing prefix is = inside_passes address inside standing prefix is
 
       -- what follows a CONNECT
       follows_stay : (d : Decision) (tunnel : Tunnel) (link : Link) (since : Since) (prefix : List (Timed Event)) → Stays prefix text (undecided tunnel link since) → Stays prefix text (follows d tunnel link since)
@@ -413,12 +418,12 @@ module _ (server : ℕ) where
           Goes prefix text (pass_reached conv client (a_flow place from) link since prefix (granted used))
       flow_goes places.Regular from link since prefix used apart stays = absurd stays.apart
       flow_goes (places.Upstream proxy) from link since prefix used apart stays = absurd stays.apart
-      flow_goes (places.Fixed address side inside) from link since prefix used apart stays =
-          let place : Place = places.Fixed address side inside in
+      flow_goes (places.Fixed address inside) from link since prefix used apart stays =
+          let place : Place = places.Fixed address inside in
           let to : Standing = connected_on place from (way_to link used prefix) (from_here (now_over since prefix) prefix) in
           goes_behind prefix text (reached_owes from.sent place from.flow link.server) (pass_flows conv client place to prefix)
           (reached_silent from.sent place from.flow link.server apart)
-          (inside_passes address side inside to prefix
+          (inside_passes address inside to prefix
           (record { apart = (stays.apart, way_apart (is_empty (text_behind link used prefix)) link used (length prefix) apart); told = stays.told }))
 
       goal_one : (goal : Goal) → GoalTold text goal → IsOneRequest text
@@ -441,6 +446,7 @@ module _ (server : ℕ) where
           (fault_silent server from.flow UpstreamRefused (now_over since prefix) (used_proxy link prefix) (closed_before link prefix))
 
       passes : (stage : Stage) (prefix : List (Timed Event)) → DecidesNothing (said_in server prefix) → Stays prefix text stage → Goes prefix text ((stack_chain conv client).pass stage prefix)
+      passes (asking front) prefix none is = absurd is.apart
       passes (http place standing) prefix none is = http_passes place standing prefix is
       passes (connecting tunnel) prefix none is = quietly prefix text [] (connecting tunnel) refl is
       passes (reaching goal link since) prefix none is = reached_goes goal link since prefix (answer_of link prefix) none refl is
@@ -456,6 +462,7 @@ module _ (server : ℕ) where
     opening_silent closed shut number = found_silent server (closed || shut) (closes_all number shut closed) (closes_silent server number shut closed)
 
     looks : (stage : Stage) (prefix : List (Timed Event)) → IsSilent server (found ((stack_chain conv client).look stage prefix))
+    looks (asking front) prefix = front_silent server front
     looks (http place standing) prefix = looks_silent server (terms_of conv client.address place) standing.stage (sight_over standing prefix)
     looks (connecting tunnel) prefix = refl
     looks (reaching goal link since) prefix = refl
@@ -470,6 +477,7 @@ module _ (server : ℕ) where
     looks over prefix = refl
 
     parts : (stage : Stage) (prefix : List (Timed Event)) → IsSilent server ((stack_chain conv client).behind stage prefix)
+    parts (asking front) prefix = refl
     parts (http place standing) prefix = behind_silent server standing.stage (sight_over standing prefix)
     parts (connecting tunnel) prefix = parked_silent server tunnel.at.parked
     parts (reaching goal link since) prefix = refl
@@ -479,10 +487,10 @@ module _ (server : ℕ) where
     parts over prefix = refl
 
     -- inside a tunnel, and while bytes go both ways
-    inside_waits : (address : Address) (side : Option ℕ) (inside : Option Address) (standing : Standing) (prefix : List (Timed Event)) → FlowApart server true standing.stage →
-        IsSilent server ((stack_chain conv client).so_far (http (places.Fixed address side inside) standing) prefix)
-    inside_waits address side inside standing prefix apart =
-        so_far_silent server (terms_of conv client.address (places.Fixed address side inside)) standing.stage (sight_over standing prefix) (not_up server standing.stage apart)
+    inside_waits : (address : Address) (inside : Option Address) (standing : Standing) (prefix : List (Timed Event)) → FlowApart server true standing.stage →
+        IsSilent server ((stack_chain conv client).so_far (http (places.Fixed address inside) standing) prefix)
+    inside_waits address inside standing prefix apart =
+        so_far_silent server (terms_of conv client.address (places.Fixed address inside)) standing.stage (sight_over standing prefix) (not_up server standing.stage apart)
 
     raw_waits : (ends : TunnelEnds) (prefix : List (Timed Event)) → ends.link.server ≢ server → IsSilent server ((stack_chain conv client).so_far (raw ends) prefix)
     raw_waits ends prefix apart =
@@ -586,9 +594,9 @@ module _ (server : ℕ) where
 
         -- ---- a request inside a tunnel
 
-        module _ (below : AreBelow standing) (address : Address) (side : Option ℕ) (proxy : Address) (stays : Stays prefix so_sent (http (places.Fixed address side (Some proxy)) standing)) where
+        module _ (below : AreBelow standing) (address : Address) (proxy : Address) (stays : Stays prefix so_sent (http (places.Fixed address (Some proxy)) standing)) where
           abbrev place : Place
-          place = places.Fixed address side (Some proxy)
+          place = places.Fixed address (Some proxy)
 
           -- a reply that connects no server
           flows_go : ConnectsNone server standing.stage answer.value → Goes prefix so_sent (turn_flows conv client place standing prefix answer)
@@ -634,13 +642,14 @@ module _ (server : ℕ) where
             Turned (http place standing) prefix ask answer
         http_turned places.Regular ask below asked stays = absurd stays.apart.0
         http_turned (places.Upstream proxy) ask below asked stays = upstream_turned proxy ask asked stays
-        http_turned (places.Fixed address side None) ask below asked stays = absurd stays.apart.0
-        http_turned (places.Fixed address side (Some proxy)) ask below asked stays =
-            turned_by (http (places.Fixed address side (Some proxy)) standing) prefix ask answer asked (inside_waits address side (Some proxy) standing prefix stays.apart.1)
-            (inside_goes below address side proxy stays standing.stage answer.value refl refl)
+        http_turned (places.Fixed address None) ask below asked stays = absurd stays.apart.0
+        http_turned (places.Fixed address (Some proxy)) ask below asked stays =
+            turned_by (http (places.Fixed address (Some proxy)) standing) prefix ask answer asked (inside_waits address (Some proxy) standing prefix stays.apart.1)
+            (inside_goes below address proxy stays standing.stage answer.value refl refl)
 
       turns : (stage : Stage) (prefix : List (Timed Event)) (ask : Command) (answer : Timed Reply) → DecidesNothing (said_in server prefix) → AllBelow stage → chain.look stage prefix ≡ Asks ask →
           Stays prefix so_sent stage → Turned stage prefix ask answer
+      turns (asking front) prefix ask answer none below asked is = absurd is.apart
       turns (http place standing) prefix ask answer none below asked is = http_turned standing prefix answer none place ask below asked is
       turns (connecting tunnel) prefix ask answer none below asked is = turned_by (connecting tunnel) prefix ask answer asked refl (dial_goes tunnel prefix answer.value answer.moment is)
       turns (reaching goal link since) prefix ask answer none below asked is = turned_by (reaching goal link since) prefix ask answer asked refl (quietly prefix so_sent [] (reaching goal link since) refl is)
@@ -668,10 +677,11 @@ module _ (server : ℕ) where
       http_one places.Regular standing prefix is = absurd is.apart.0
       http_one (places.Upstream proxy) standing prefix is =
           told_one (places.Upstream proxy) 0 _ refl (said_there sequence is_in_sequence (terms_of conv client.address (places.Upstream proxy)) None 0 server standing prefix before is.told)
-      http_one (places.Fixed address side inside) standing prefix is =
-          one_by (http (places.Fixed address side inside) standing) prefix (inside_waits address side inside standing prefix is.apart.1) is.told.0
+      http_one (places.Fixed address inside) standing prefix is =
+          one_by (http (places.Fixed address inside) standing) prefix (inside_waits address inside standing prefix is.apart.1) is.told.0
 
       there_one : (stage : Stage) (prefix : List (Timed Event)) → Stays prefix so_sent stage → IsOneRequest (sent_in (before ++ (chain.so_far stage prefix ++ found_at chain stage prefix)))
+      there_one (asking front) prefix is = absurd is.apart
       there_one (http place standing) prefix is = http_one place standing prefix is
       there_one (connecting tunnel) prefix is = one_by (connecting tunnel) prefix refl is.told.0
       there_one (reaching goal link since) prefix is = one_by (reaching goal link since) prefix refl (goal_one before goal is.told)

@@ -23,7 +23,7 @@ use Rattle.px_stack.specs.declared.reaching.ProxySays.{ProxySays}
 use Rattle.px_stack.specs.declared.reaching.ProxySays.TheVariants as told
 use Rattle.px_stack.specs.Chain.{answer_of, closed_before, closed_of, pass_reached, stack_chain, text_of}
 use Rattle.px_stack.specs.Reached.{HearsProxy, HearsThere}
-use Rattle.px_stack.specs.Stages.{Goal, Link, Stage, Visitor, a_flow, a_tunnel, connecting, http, over, raw, reaching, socket, undecided}
+use Rattle.px_stack.specs.Stages.{Goal, Link, Stage, Visitor, a_flow, a_tunnel, asking, connecting, http, over, raw, reaching, socket, undecided}
 use Rattle.px_stack.specs.Stands.{IsChild, IsGoal, IsReaching, IsSomewhere, Keeps, KeepsBy}
 use Rattle.px_stack.specs.Steps.{Adds, Arrives, CanGoOn, HearsGoal, IsGoalSomewhere, IsLetThrough, IsTurnedAway, LetsThrough, MayGoOn, TakesChild, TurnsAway}
 use Rattle.px_stack.proofs.SaidLemmas.{answer_more, awaits_open, closed_more, closing_piece, grants_open, heard_more, says_no, says_nothing, says_yes}
@@ -107,6 +107,8 @@ module _ (conv : ℕ) (client : Visitor) (kept : Reaching) where
   -- what it keeps is kept at no other stage
   pub at_reaching : (P : Stage → Type 0) (stage : Stage) (prefix : List (Timed Event)) → IsChild conv client (children.Reaching kept) stage prefix →
       ((goal : Goal) (link : Link) (since : Since) → IsAnswered conv client goal link since prefix kept → P (reaching goal link since)) → P stage
+  at_reaching P (asking front) prefix there goes =
+      absurd (none_kept (asking front) prefix (λ at. let no : children.Reaching kept ≡ children.Asking at.layer = at.is in cc) _ there)
   at_reaching P (http place standing) prefix there goes =
       absurd (none_kept (http place standing) prefix (λ at. let no : children.Reaching kept ≡ children.Http at.flows = at.is in cc) _ there)
   at_reaching P (connecting tunnel) prefix there goes =

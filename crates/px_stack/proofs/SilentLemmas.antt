@@ -14,13 +14,14 @@ use Rattle.px_event.specs.declared.side.Side.{Side}
 use Rattle.px_event.specs.declared.side.Side.TheVariants.{Client, Server}
 use Rattle.px_event.specs.Chain.{Timed, NotYet, Asks, Ends, Turn, found}
 use Rattle.px_event.specs.Layer.{Move}
+use Rattle.px_event.specs.Stands.{due_by}
 use Rattle.px_event.specs.View.{byte, bytes_in, close, line, seen_of}
 use Rattle.px_exchange.specs.declared.ending.Used.TheVariants.{ByServer}
 use Rattle.px_exchange.specs.declared.mode.Mode.{Mode}
 use Rattle.px_exchange.specs.declared.place.Place.{Place}
 use Rattle.px_exchange.specs.declared.place.Place.TheVariants as places
 use Rattle.px_exchange.specs.Endings.{shut_client, shut_server}
-use Rattle.px_exchange.specs.Places.{address_of, terms_of}
+use Rattle.px_exchange.specs.Places.{address_of, place_of, terms_of}
 use Rattle.px_chain.specs.Chain.{Connect, connect_in, is_sequence, sequence}
 use Rattle.px_chain.specs.Keeping.{shut_by_byte, shut_stray, unspoilt_at}
 use Rattle.px_chain.specs.Sights.{Sight, Standing, request_in, sight_over}
@@ -35,14 +36,18 @@ use Rattle.px_tunnel.specs.Upstream.{Granting, awaited, connect_text, granted, r
 use Rattle.px_relay.specs.Chain as relay
 use Rattle.px_relay.specs.Sending.{Terms}
 use Rattle.px_relay.specs.Stages.{Stage as Frames, holding, over as ended, relaying}
+use Rattle.px_socks.specs.Chain as socks
+use Rattle.px_socks.specs.FrontLaws.{AllToClient, pass_to_client, turn_to_client}
+use Rattle.px_socks.specs.Stages as fronts
+use Rattle.px_socks.specs.Stages.{Stage as Front}
 use Rattle.px_stream.specs.Anywhere.{reached_owes}
-use Rattle.px_stack.specs.Chain.{answer_of, asks_proxy, begins, begun, closed_before, closed_of, closes_all, finished_flow, flows_at, follows, goes_by, hands_by, hands_over, has_answered, is_empty, is_shut, led_at, led_by, opening_text, or_stays, owed_at_handing, shut_parked, pass_http, pass_reached, pass_socket, socket_sight, socket_terms, socket_turn, stack_chain, text_behind, text_down, text_up, tunnel_for, tunnel_found, turn_connected, turn_dial, turn_flows, turn_http, upgrades, used_proxy, way_by, way_to, pass_flows, connected_on}
+use Rattle.px_stack.specs.Chain.{answer_of, asks_proxy, at_front, begins, begins_by, begun, closed_before, closed_of, closes_all, finished_flow, flows_at, follows, front_sight, goes_by, hands_by, hands_over, has_answered, is_empty, is_shut, led_at, led_by, opening_text, or_stays, owed_at_handing, shut_parked, pass_front, pass_http, pass_reached, pass_socket, socket_sight, socket_terms, socket_turn, stack_chain, text_behind, text_down, text_up, tunnel_for, tunnel_found, turn_connected, turn_dial, turn_flows, turn_front, turn_http, upgrades, used_proxy, way_by, way_to, pass_flows, connected_on}
 use Rattle.px_stack.specs.Decides.{Decision, decided, is_http, is_raw, still}
 use Rattle.px_stack.specs.Frames.{AreSaid, Says, pass_says, turn_says}
 use Rattle.px_stack.specs.Modes.{mode_due}
 use Rattle.px_stack.specs.Laws.{handing_owes}
 use Rattle.px_stack.specs.Sockets.{is_websocket}
-use Rattle.px_stack.specs.Stages.{Dialling, Ends as TunnelEnds, Goal, Link, Stage, Tunnel, Visitor, a_flow, a_tunnel, connecting, http, over, raw, reaching, socket, undecided}
+use Rattle.px_stack.specs.Stages.{Dialling, Ends as TunnelEnds, Goal, Link, Stage, Tunnel, Visitor, a_flow, a_tunnel, asking, connecting, http, over, raw, reaching, socket, undecided}
 
 -- ---- what is counted
 
@@ -52,6 +57,7 @@ dials_of (a_tunnel tunnel) = tunnel.at.dials
 dials_of (a_flow place from) = from.at.dials + 1
 
 abbrev pub dials_at : Stage → ℕ
+dials_at (asking front) = 0
 dials_at (http place standing) = dialled_at standing
 dials_at (connecting tunnel) = tunnel.at.dials
 dials_at (reaching goal link since) = dials_of goal
@@ -148,6 +154,24 @@ module _ (server : ℕ) where
   said_silent terms to apart (commands.Ask ask flow ∷ owed) (here, said) = absurd here
   said_silent terms to apart (commands.Done flow ∷ owed) (here, said) = said_silent terms to apart owed said
 
+  -- a client of SOCKS is told something, or closed, and its dial sends nothing
+  clients_silent : (owed : List Command) → AllToClient owed → IsSilent server owed
+  clients_silent [] are = refl
+  clients_silent (commands.Send Client text ∷ owed) (here, are) = clients_silent owed are
+  clients_silent (commands.Send (Server number) text ∷ owed) (here, are) = absurd here
+  clients_silent (commands.Close Client ∷ owed) (here, are) = clients_silent owed are
+  clients_silent (commands.Close (Server number) ∷ owed) (here, are) = absurd here
+  clients_silent (commands.Dial number address inside ∷ owed) (here, are) = absurd here
+  clients_silent (commands.Ask ask flow ∷ owed) (here, are) = absurd here
+  clients_silent (commands.Done flow ∷ owed) (here, are) = absurd here
+
+  pub front_silent : (front : Front) → IsSilent server (found (socks.look front))
+  front_silent fronts.greeting = refl
+  front_silent (fronts.requesting used) = refl
+  front_silent (fronts.dialling used address) = refl
+  front_silent (fronts.opened used address) = refl
+  front_silent fronts.over = refl
+
   pub frames_silent : (terms : Terms) (frames : Frames) → IsSilent server (found (relay.look terms frames))
   frames_silent terms (relaying at) = refl
   frames_silent terms (holding from message at) = refl
@@ -231,7 +255,22 @@ module _ (conv : ℕ) (client : Visitor) where
       Counts dials_at AllBelow (ends.link.server + 1) (pass_socket conv client ends flow frames prefix)
   socket_passes ends flow frames prefix = socket_counts ends flow (ends.link.server + 1) _ (omega arith) (pass_says (socket_terms client.key ends flow) (socket_sight ends prefix) frames)
 
+  -- a client of SOCKS has no server yet
+  front_few : (front : Front) → Few 0 (at_front front)
+  front_few fronts.greeting = (omega arith, tt)
+  front_few (fronts.requesting used) = (omega arith, tt)
+  front_few (fronts.dialling used address) = (omega arith, tt)
+  front_few (fronts.opened used address) = (omega arith, tt)
+  front_few fronts.over = (omega arith, tt)
+
+  front_passes : (front : Front) (prefix : List (Timed Event)) → Counts dials_at AllBelow 0 (pass_front front prefix)
+  front_passes front prefix =
+      let on : Turn Front Command = socks.pass front (front_sight prefix) in
+      let few = front_few on.stage in
+      record { silent = λ server beyond. clients_silent server on.owed (pass_to_client front (front_sight prefix)); few = few.0; stays = few.1 }
+
   begun_counts : (stage : Stage) (prefix : List (Timed Event)) → AllBelow stage → Counts dials_at AllBelow (dials_at stage) (begun conv client stage prefix)
+  begun_counts (asking front) prefix is = quietly 0 (asking front) (omega arith, tt)
   begun_counts (http place standing) prefix is = quietly (dialled_at standing) (http place standing) (omega arith, is)
   begun_counts (connecting tunnel) prefix is = quietly tunnel.at.dials (connecting tunnel) (omega arith, tt)
   begun_counts (reaching goal link since) prefix is = quietly (dials_of goal) (reaching goal link since) (omega arith, is)
@@ -292,6 +331,7 @@ module _ (conv : ℕ) (client : Visitor) where
   }
 
   passes : (stage : Stage) (prefix : List (Timed Event)) → AllBelow stage → Counts dials_at AllBelow (dials_at stage) ((stack_chain conv client).pass stage prefix)
+  passes (asking front) prefix is = front_passes front prefix
   passes (http place standing) prefix is = flows_pass place standing prefix is
   passes (connecting tunnel) prefix is = quietly tunnel.at.dials (connecting tunnel) (omega arith, tt)
   passes (reaching goal link since) prefix is = reached_counts goal link since prefix (answer_of link prefix) is
@@ -302,6 +342,7 @@ module _ (conv : ℕ) (client : Visitor) where
   passes over prefix is = quietly 0 over (omega arith, tt)
 
   looks : (stage : Stage) (prefix : List (Timed Event)) → AllBelow stage → (server : ℕ) → dials_at stage ≤ server → IsSilent server (found ((stack_chain conv client).look stage prefix))
+  looks (asking front) prefix is server beyond = front_silent server front
   looks (http place standing) prefix is server beyond = (flows_count place).looks standing prefix is server beyond
   looks (connecting tunnel) prefix is server beyond = refl
   looks (reaching goal link since) prefix is server beyond = refl
@@ -319,6 +360,7 @@ module _ (conv : ℕ) (client : Visitor) where
   looks over prefix is server beyond = refl
 
   waits : (stage : Stage) (prefix : List (Timed Event)) → AllBelow stage → (server : ℕ) → dials_at stage ≤ server → IsSilent server ((stack_chain conv client).so_far stage prefix)
+  waits (asking front) prefix is server beyond = refl
   waits (http place standing) prefix is server beyond = (flows_count place).waits standing prefix is server beyond
   waits (connecting tunnel) prefix is server beyond = refl
   waits (reaching goal link since) prefix is server beyond = refl
@@ -328,6 +370,7 @@ module _ (conv : ℕ) (client : Visitor) where
   waits over prefix is server beyond = refl
 
   parts : (stage : Stage) (prefix : List (Timed Event)) → AllBelow stage → (server : ℕ) → dials_at stage ≤ server → IsSilent server ((stack_chain conv client).behind stage prefix)
+  parts (asking front) prefix is server beyond = refl
   parts (http place standing) prefix is server beyond = (flows_count place).behind standing prefix is server beyond
   parts (connecting tunnel) prefix is server beyond = parked_silent server tunnel.at.parked
   parts (reaching goal link since) prefix is server beyond = refl
@@ -352,6 +395,31 @@ module _ (conv : ℕ) (client : Visitor) where
   dial_turns tunnel prefix reply.Dialled moment = connected_turns tunnel.proxy tunnel prefix moment
   dial_turns tunnel prefix (reply.Refused fault) moment =
       record { silent = λ server beyond. client_silent server (client_closed prefix); few = omega arith; stays = tt }
+
+  -- what is answered to the dial of a client of SOCKS
+  asked_turns : (used : ℕ) (address : Address) (closed : Bool) (answer : Reply) (prefix : List (Timed Event)) (moment : ℕ) →
+      (let on : Turn Front Command = socks.turn (fronts.dialling used address) closed answer in Few (0 + connects answer) (turn_front conv client on prefix moment).stage)
+  asked_turns used address closed (reply.Go given stream) prefix moment = (omega arith, tt)
+  asked_turns used address closed (reply.Respond response) prefix moment = (omega arith, tt)
+  asked_turns used address closed reply.Kill prefix moment = (omega arith, tt)
+  asked_turns used address closed reply.Discard prefix moment = (omega arith, tt)
+  asked_turns used address closed reply.Dialled prefix moment = (omega arith, omega arith)
+  asked_turns used address closed (reply.Refused fault) prefix moment = (omega arith, tt)
+
+  front_turned : (front : Front) (ask : Command) (closed : Bool) (answer : Reply) (prefix : List (Timed Event)) (moment : ℕ) → socks.look front ≡ Asks ask →
+      Few (0 + connects answer) (turn_front conv client (socks.turn front closed answer) prefix moment).stage
+  front_turned fronts.greeting ask closed answer prefix moment asked = absurd (let no : NotYet ≡ Asks ask = asked in cc)
+  front_turned (fronts.requesting used) ask closed answer prefix moment asked = absurd (let no : NotYet ≡ Asks ask = asked in cc)
+  front_turned (fronts.dialling used address) ask closed answer prefix moment asked = asked_turns used address closed answer prefix moment
+  front_turned (fronts.opened used address) ask closed answer prefix moment asked = absurd (let no : Ends [] ≡ Asks ask = asked in cc)
+  front_turned fronts.over ask closed answer prefix moment asked = absurd (let no : Ends [] ≡ Asks ask = asked in cc)
+
+  front_turns : (front : Front) (ask : Command) (closed : Bool) (answer : Reply) (prefix : List (Timed Event)) (moment : ℕ) → socks.look front ≡ Asks ask →
+      Counts dials_at AllBelow (0 + connects answer) (turn_front conv client (socks.turn front closed answer) prefix moment)
+  front_turns front ask closed answer prefix moment asked =
+      let on : Turn Front Command = socks.turn front closed answer in
+      let few = front_turned front ask closed answer prefix moment asked in
+      record { silent = λ server beyond. clients_silent server on.owed (turn_to_client front closed answer); few = few.0; stays = few.1 }
 
   asks_not : (ends : Bool) (owed : List Command) (ask : Command) → tunnel_found ends owed ≡ Asks ask → ⊥
   asks_not true owed ask is = let no : Ends owed ≡ Asks ask = is in cc
@@ -380,8 +448,8 @@ module _ (conv : ℕ) (client : Visitor) where
   led_is : (place : Place) (standing : Standing) → IsLed standing.stage (led_at place standing)
   led_is places.Regular standing = tt
   led_is (places.Upstream proxy) standing = tt
-  led_is (places.Fixed address side None) standing = tt
-  led_is (places.Fixed address side (Some proxy)) standing = led_is_by standing.used.client standing.stage
+  led_is (places.Fixed address None) standing = tt
+  led_is (places.Fixed address (Some proxy)) standing = led_is_by standing.used.client standing.stage
 
   proxy_asked : (most : ℕ) (place : Place) (prefix : List (Timed Event)) (from : Dialling) (moment : ℕ) → from.at.dials + 1 ≤ most →
       Counts dials_at AllBelow most (asks_proxy conv client (a_flow place from) (address_of from.flow.request) from.at.dials prefix moment)
@@ -411,6 +479,7 @@ module _ (conv : ℕ) (client : Visitor) where
 
   turns : (stage : Stage) (prefix : List (Timed Event)) (ask : Command) (answer : Timed Reply) → AllBelow stage → (stack_chain conv client).look stage prefix ≡ Asks ask →
       Counts dials_at AllBelow (dials_at stage + connects answer.value) ((stack_chain conv client).turn stage prefix answer)
+  turns (asking front) prefix ask answer is asked = front_turns front ask (client_closed prefix) answer.value prefix answer.moment asked
   turns (http place standing) prefix ask answer is asked =
       http_turns (led_at place standing) place standing prefix ask answer answer.value (led_is place standing) refl is asked
   turns (connecting tunnel) prefix ask answer is asked = dial_turns tunnel prefix answer.value answer.moment
@@ -426,13 +495,26 @@ module _ (conv : ℕ) (client : Visitor) where
   pub stack_counts : CountsServers (stack_chain conv client) dials_at AllBelow
   stack_counts = record { passes = passes; looks = looks; waits = waits; behind = parts; turns = turns }
 
+-- no server is dialled where a conversation begins
+begun_below : (place : Option Place) → AllBelow (begins_by place)
+begun_below None = tt
+begun_below (Some place) = tt
+
+begun_none : (place : Option Place) → dials_at (begins_by place) ≡ 0
+begun_none None = refl
+begun_none (Some place) = refl
+
 -- No byte is due to a server while no call answers its dial with the connection. Servers are numbered from 0 in the order of their dials.
 pub mode_silent : (mode : Mode) (key : List ℕ) (conv : ℕ) (peer : Option Address) (server : ℕ) (moves : List Move) → NoAnswer server moves →
     bytes_in (seen_of (line (Server server)) (mode_due mode key conv peer moves)) ≡ []
 mode_silent mode key conv peer server moves none =
     let client : Visitor = record { address = peer; key = key } in
-    counted_silent (stack_chain conv client) dials_at AllBelow (stack_counts conv client) server (begins mode) moves tt refl none
+    counted_silent (stack_chain conv client) dials_at AllBelow (stack_counts conv client) server (begins mode) moves (begun_below (place_of mode)) (begun_none (place_of mode)) none
 
 -- Nothing at all is due before the first call.
 pub mode_nothing_yet : (mode : Mode) (key : List ℕ) (conv : ℕ) (peer : Option Address) → mode_due mode key conv peer [] ≡ []
-mode_nothing_yet mode key conv peer = refl
+mode_nothing_yet mode key conv peer = by (place_of mode)
+  where
+    by : (place : Option Place) → due_by (stack_chain conv (record { address = peer; key = key })) (begins_by place) [] ≡ []
+    by None = refl
+    by (Some place) = refl

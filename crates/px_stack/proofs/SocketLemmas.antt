@@ -32,7 +32,7 @@ use Rattle.px_stack.specs.declared.closing.Sides.{Sides}
 use Rattle.px_stack.specs.Chain.{is_shut, socket_sight, socket_terms, stack_chain, text_down, text_up, upgrades}
 use Rattle.px_stack.specs.Kept.{awaited_by, left_by, most_asked, socket_left}
 use Rattle.px_stack.specs.Sockets.{agrees, is_websocket}
-use Rattle.px_stack.specs.Stages.{Ends as TunnelEnds, Stage, Visitor, connecting, http, over, raw, reaching, socket, undecided}
+use Rattle.px_stack.specs.Stages.{Ends as TunnelEnds, Stage, Visitor, asking, connecting, http, over, raw, reaching, socket, undecided}
 use Rattle.px_stack.specs.Stands.{IsChild, IsFraming, IsSomewhere, Keeps, KeepsBy}
 use Rattle.px_stack.specs.Steps.{Adds, Arrives, BeginsSocket, GoesOnAs, MayRelay, Relays, ResumesChild, TakesChild, comes_by, comes_to}
 use Rattle.px_stack.proofs.MessageLemmas.{answered_left, heard_left, relaying_left}
@@ -108,6 +108,8 @@ module _ (conv : ℕ) (client : Visitor) (kept : Box WsLayer) where
   keeps_at stage prefix is = keeps_by ((stack_chain conv client).look stage prefix) conv client kept stage prefix is
 
   pub kept_socket : (stage : Stage) (prefix : List (Timed Event)) → IsChild conv client (children.Socket kept) stage prefix → IsKeptSocket client.key kept.value stage prefix
+  kept_socket (asking front) prefix is =
+      let there = keeps_at (asking front) prefix is in absurd (let no : children.Socket kept ≡ children.Asking there.layer = there.is in cc)
   kept_socket (http place standing) prefix is =
       let there = keeps_at (http place standing) prefix is in absurd (let no : children.Socket kept ≡ children.Http there.flows = there.is in cc)
   kept_socket (connecting tunnel) prefix is =

@@ -1,6 +1,5 @@
 -- From what a child does to what its conversation does.
-use Rattle.std.proofs.Common.{◌≡◌, ℕ, List, [], Option, Some, None, refl, ap, sym, ◌∙◌, subst}
-use Rattle.std.specs.Global.{Box}
+use Rattle.std.proofs.Common.{◌≡◌, ℕ, ◌≤◌, List, [], Option, Some, None, refl, ap, sym, ◌∙◌, subst, arith}
 use Rattle.std.specs.Prelude.{IfOk, Result, Ok, Err}
 use Rattle.rand_chacha.specs.ChaCha.{key_of}
 use Rattle.px_message.specs.declared.address.Address.{Address}
@@ -12,91 +11,78 @@ use Rattle.px_event.specs.Layer.{AsksOnly, Goes, IsSound, Move, Took, Replied}
 use Rattle.px_event.specs.Stands.{StandsAt, due_by, stop_of}
 use Rattle.px_event.proofs.Steps.{Takes, onward, past_end, Resumes, begins as begins_at, resume_goes, take_goes}
 use Rattle.px_exchange.specs.declared.mode.Mode.{Mode}
-use Rattle.px_exchange.specs.declared.mode.Mode.TheVariants as modes
 use Rattle.px_exchange.specs.declared.place.Place.{Place}
+use Rattle.px_exchange.specs.declared.place.Place.TheVariants as places
 use Rattle.px_exchange.specs.declared.terms.Terms.{Terms}
 use Rattle.px_exchange.specs.Places.{place_of, terms_of}
-use Rattle.px_chain.specs.Chain.{begin, parked_of}
+use Rattle.px_chain.specs.Chain.{begin}
 use Rattle.px_chain.specs.Stages.{At, idle}
-use Rattle.px_http.specs.declared.conversation.HttpConv.{HttpConv}
-use Rattle.px_http.specs.Stands.{HttpStands, ahead_of}
+use Rattle.px_http.specs.Stands.{ahead_of}
 use Rattle.px_stream.specs.declared.stream.Stream.{Stream}
 use Rattle.px_stream.specs.Anywhere.{IsInSequence}
-use Rattle.px_stream.specs.Tells.{IsSideBelow}
 use Rattle.px_stack.specs.declared.child.Child.{Child}
-use Rattle.px_stack.specs.declared.child.Child.TheVariants as children
 use Rattle.px_stack.specs.declared.stack.Stack.{Stack}
-use Rattle.px_stack.specs.Chain.{begins, first_at, stack_chain}
+use Rattle.px_stack.specs.Chain.{begins, begins_by, first_at, stack_chain}
 use Rattle.px_stack.specs.Kept.{awaited_by}
 use Rattle.px_stack.specs.Modes.{mode_due}
 use Rattle.px_stack.specs.Stack.{IsAt, StackStands, chain_of, start_by, start_of, visitor_of}
 use Rattle.px_stack.specs.StackLaws.{settles_there}
 use Rattle.px_stack.specs.Stages.{Stage, Visitor, http}
-use Rattle.px_stack.specs.Stands.{IsChild, IsInFlows, IsSomewhere, ahead_at}
+use Rattle.px_stack.specs.Stands.{IsChild, IsFirst, IsFirstHttp, IsHttp, IsSomewhere, ahead_at}
 use Rattle.px_stack.specs.Steps.{Adds, ResumesChild, TakesChild}
 
 -- ---- one that was made stands for itself
 
--- no side of the first place is connected yet
-none_parked : (mode : Mode) → parked_of (place_of mode) ≡ None
-none_parked modes.Regular = refl
-none_parked (modes.Reverse address) = refl
-none_parked (modes.Upstream proxy) = refl
+-- one server more than flows may have been there at most
+few_ahead : (place : Place) → ahead_at place ≤ 1
+few_ahead places.Regular = omega arith
+few_ahead (places.Upstream proxy) = omega arith
+few_ahead (places.Fixed address inside) = omega arith
 
 -- where its flows are, before the first move
 abbrev FirstIn : Stream → Terms → At → Type 0
 FirstIn stream terms at = IsInSequence terms (ahead_of at) stream (begin (idle at)) []
 
-first_there : (conv : ℕ) (client : Visitor) (mode : Mode) (stream : Stream) → FirstIn stream (terms_of conv client.address (place_of mode)) first_at →
-    IsInSequence (terms_of conv client.address (place_of mode)) (ahead_at (place_of mode)) stream (begin (idle first_at)) []
-first_there conv client modes.Regular stream there = there
-first_there conv client (modes.Reverse address) stream there = there
-first_there conv client (modes.Upstream proxy) stream there = there
+module _ (conv : ℕ) (client : Visitor) (peer : Address) (known : client.address ≡ Some peer) (child : Child) where
+  first_http : (place : Place) → IsFirstHttp conv peer place child → IsHttp conv client place (begin (idle first_at)) [] child
+  first_http place first =
+      let stream : Stream = first.flows.value.stream in
+      let P : Terms → Type 0 = λ terms. FirstIn stream terms stream.at in
+      let Q : At → Type 0 = λ at. FirstIn stream (terms_of conv client.address place) at in
+      let terms : stream.terms ≡ terms_of conv client.address place = first.terms ∙ ap (λ a. terms_of conv a place) (sym known) in
+      let there : FirstIn stream (terms_of conv client.address place) first_at = subst Q first.at (subst P terms first.stands.place) in
+      record {
+        flows = first.flows;
+        is = first.is;
+        there = record { is_at = there.is_at; few = record { few = omega arith; dials = omega arith }; small = few_ahead place };
+        in_time = λ closed. closed;
+      }
 
--- What is needed of one that was made in a mode.
-pub record IsMade (made : Stack) (mode : Mode) (flows : Box HttpConv) : Type 0 where
-  pub child : made.child ≡ children.Http flows
-  pub terms : flows.value.stream.terms ≡ terms_of made.conv made.client (place_of mode)
-  pub at : flows.value.stream.at ≡ first_at
-  pub stands : HttpStands flows.value flows.value [] []
+-- where it begins
+first_starts : (conv : ℕ) (peer : Address) (child : Child) (to : Option Place) → IsFirst conv peer to child → start_by child ≡ begins_by to
+first_starts conv peer child (Some place) first =
+    ap start_by first.is
+    ∙ (ap (λ t. http t.place (begin (idle first.flows.value.stream.at))) first.terms ∙ ap (λ at. http place (begin (idle at))) first.at)
+first_starts conv peer child None first = ap start_by first.is
 
-pub starts_there : (made : Stack) (mode : Mode) (flows : Box HttpConv) → IsMade made mode flows → start_of made ≡ begins mode
-starts_there made mode flows is =
-    ap start_by is.child
-    ∙ (ap (λ t. http t.place (begin (idle flows.value.stream.at))) is.terms ∙ ap (λ at. http (place_of mode) (begin (idle at))) is.at)
+stands_first : (made : Stack) (peer : Address) → made.client ≡ Some peer → (to : Option Place) → IsFirst made.conv peer to made.child →
+    StandsAt (chain_of made) (begins_by to) (IsAt made) made [] []
+stands_first made peer known (Some place) first =
+    let there : IsAt made made (begins_by (Some place)) [] =
+    record { conv = refl; client = refl; mask_key = refl; child = first_http made.conv (visitor_of made) peer known made.child place first } in
+    begins_at (chain_of made) (settles_there made) (begins_by (Some place)) (IsAt made) made there (λ view. refl)
+stands_first made peer known None first =
+    let there : IsAt made made (begins_by None) [] =
+    record { conv = refl; client = refl; mask_key = refl; child = record { layer = first.layer; is = first.is; there = first.there } } in
+    begins_at (chain_of made) (settles_there made) (begins_by None) (IsAt made) made there (λ view. refl)
 
-flows_there : (made : Stack) (mode : Mode) (flows : Box HttpConv) → IsMade made mode flows →
-    IsInFlows made.conv (visitor_of made) (place_of mode) flows.value (begin (idle first_at)) []
-flows_there made mode flows is =
-    let P : Terms → Type 0 = λ terms. FirstIn flows.value.stream terms flows.value.stream.at in
-    let Q : At → Type 0 = λ at. FirstIn flows.value.stream (terms_of made.conv made.client (place_of mode)) at in
-    first_there made.conv (visitor_of made) mode flows.value.stream (subst Q is.at (subst P is.terms is.stands.place))
+pub starts_there : (made : Stack) (mode : Mode) (peer : Address) → IsFirst made.conv peer (place_of mode) made.child → start_of made ≡ begins mode
+starts_there made mode peer first = first_starts made.conv peer made.child (place_of mode) first
 
-pub stands_made : (made : Stack) (mode : Mode) (flows : Box HttpConv) → IsMade made mode flows → StackStands made made [] []
-stands_made made mode flows is =
+pub stands_made : (made : Stack) (mode : Mode) (peer : Address) → made.client ≡ Some peer → IsFirst made.conv peer (place_of mode) made.child → StackStands made made [] []
+stands_made made mode peer known first =
     let P : Stage → Type 0 = λ start. StandsAt (chain_of made) start (IsAt made) made [] [] in
-    let there : IsAt made made (begins mode) [] =
-    record { conv = refl; client = refl; mask_key = refl; child = record { flows = flows; is = is.child; there = flows_there made mode flows is; in_time = λ closed. closed } } in
-    subst P (sym (starts_there made mode flows is)) (begins_at (chain_of made) (settles_there made) (begins mode) (IsAt made) made there (λ view. refl))
-
-pub new_made : (made : Stack) (mode : Mode) (flows : Box HttpConv) (peer : Address) → made.child ≡ children.Http flows → made.client ≡ Some peer →
-    flows.value.stream.terms ≡ terms_of made.conv (Some peer) (place_of mode) → flows.value.stream.at ≡ record { flow = 0; dials = 0; parked = parked_of (place_of mode) } →
-    HttpStands flows.value flows.value [] [] → IsMade made mode flows
-new_made made mode flows peer child client terms at stands = record {
-  child = child;
-  terms = terms ∙ ap (λ to. terms_of made.conv to (place_of mode)) (sym client);
-  at = at ∙ ap (λ p. let here : At = record { flow = 0; dials = 0; parked = p } in here) (none_parked mode);
-  stands = stands;
-}
-
--- no side of the first place is connected
-pub has_no_side : (mode : Mode) (place : Place) → place ≡ place_of mode → IsSideBelow place 0
-has_no_side mode place is = subst (λ at. IsSideBelow at 0) (sym is) (by mode)
-  where
-    by : (mode : Mode) → IsSideBelow (place_of mode) 0
-    by modes.Regular = tt
-    by (modes.Reverse address) = tt
-    by (modes.Upstream proxy) = tt
+    subst P (sym (starts_there made mode peer first)) (stands_first made peer known (place_of mode) first)
 
 -- ---- one move more
 

@@ -1,4 +1,4 @@
--- What is due in a conversation: HTTP's chain, until a CONNECT or a response of code 101 hands over; then a tunnel, in which HTTP may
+-- What is due in a conversation: what a client of SOCKS says first, in a mode that wants it; HTTP's chain, until a CONNECT or a response of code 101 hands over; then a tunnel, in which HTTP may
 -- follow again. All of it looks at joined prefixes alone, so what the one has not used is there for the other.
 use Rattle.std.specs.Prelude.{ℕ, ◌+◌, ◌==◌, Bool, true, false, ◌||◌, not, if◌then◌else◌, List, [], ◌∷◌, ◌++◌, drop, take, length, Option, Some, None, unwrap_or}
 use Rattle.px_message.specs.declared.address.Address.{Address}
@@ -32,9 +32,12 @@ use Rattle.px_relay.specs.Chain as relay
 use Rattle.px_relay.specs.Sending.{Terms}
 use Rattle.px_relay.specs.Sights.{Sight as SocketSight}
 use Rattle.px_relay.specs.Stages.{Stage as Frames, relaying}
+use Rattle.px_socks.specs.Chain as socks
+use Rattle.px_socks.specs.Stages as fronts
+use Rattle.px_socks.specs.Stages.{Sight as FrontSight, Stage as Front}
 use Rattle.px_stack.specs.Sockets.{is_websocket}
 use Rattle.px_stream.specs.Anywhere.{reached_owes}
-use Rattle.px_stack.specs.Stages.{Dialling, Ends as TunnelEnds, Goal, Link, Stage, Tunnel, Visitor, a_flow, a_tunnel, connecting, http, over, raw, reaching, socket, undecided}
+use Rattle.px_stack.specs.Stages.{Dialling, Ends as TunnelEnds, Goal, Link, Stage, Tunnel, Visitor, a_flow, a_tunnel, asking, connecting, http, over, raw, reaching, socket, undecided}
 
 -- ---- where HTTP hands over
 
@@ -92,7 +95,7 @@ has_answered link prefix = not (is_empty (text_on link prefix))
 
 -- HTTP in a tunnel goes to where the CONNECT asked to, the first request on the side that is connected, which is parked until then
 abbrev pub inner_place : Tunnel → Link → Place
-inner_place tunnel link = places.Fixed tunnel.address (Some link.server) tunnel.proxy
+inner_place tunnel link = places.Fixed tunnel.address tunnel.proxy
 
 abbrev pub inner_standing : Tunnel → Link → Since → Standing
 inner_standing tunnel link since = record {
@@ -219,8 +222,25 @@ led_by used (busy at flow (connection sent)) = Some (record { at = unparked at; 
 led_by used stage = None
 
 abbrev pub led_at : Place → Standing → Option Dialling
-led_at (places.Fixed address side (Some proxy)) standing = led_by standing.used.client standing.stage
+led_at (places.Fixed address (Some proxy)) standing = led_by standing.used.client standing.stage
 led_at place standing = None
+
+-- ---- a client of SOCKS
+
+abbrev pub front_sight : List (Timed Event) → FrontSight
+front_sight prefix = record { client = bytes_of Client prefix; closed = client_closed prefix }
+
+-- where it is over, all is
+abbrev pub at_front : Front → Stage
+at_front fronts.over = over
+at_front front = asking front
+
+abbrev pub pass_front : Front → List (Timed Event) → Turn Stage Command
+pass_front front prefix = let on = socks.pass front (front_sight prefix) in record { owed = on.owed; stage = at_front on.stage }
+
+-- the tunnel that it asks for: its server was dialled as the first, and no flow has come yet
+abbrev pub asked_tunnel : ℕ → Address → Tunnel
+asked_tunnel used address = record { at = record { flow = 0; dials = 1; parked = None }; used = used; address = address; proxy = None }
 
 -- ---- a WebSocket
 
@@ -292,6 +312,7 @@ module _ (conv : ℕ) (client : Visitor) where
   }
 
   abbrev pub pass : Stage → List (Timed Event) → Turn Stage Command
+  pass (asking front) prefix = pass_front front prefix
   pass (http place standing) prefix = pass_flows place standing prefix
   pass (socket ends flow frames) prefix = pass_socket ends flow frames prefix
   pass (reaching goal link since) prefix = pass_reached goal link since prefix (answer_of link prefix)
@@ -299,6 +320,7 @@ module _ (conv : ℕ) (client : Visitor) where
   pass stage prefix = record { owed = []; stage = stage }
 
   abbrev pub look : Stage → List (Timed Event) → Look Command
+  look (asking front) prefix = socks.look front
   look (http place standing) prefix = (flows_at place).look standing prefix
   look (connecting tunnel) prefix = Asks (commands.Dial tunnel.at.dials (dialled_by tunnel) None)
   look (reaching goal link since) prefix = NotYet
@@ -327,6 +349,14 @@ module _ (conv : ℕ) (client : Visitor) where
   -- a server that is connected, or a proxy, which is asked for a tunnel to there
   abbrev pub link_at : ℕ → List (Timed Event) → Link
   link_at server prefix = record { server = server; used = 0; opened = length prefix }
+
+  -- where the server that a client of SOCKS asks for is connected, the first bytes behind its request decide what follows
+  abbrev pub behind_front : Front → List (Timed Event) → ℕ → Stage
+  behind_front (fronts.opened used address) prefix moment = undecided (asked_tunnel used address) (link_at 0 prefix) (from_here moment prefix)
+  behind_front front prefix moment = at_front front
+
+  abbrev pub turn_front : Turn Front Command → List (Timed Event) → ℕ → Turn Stage Command
+  turn_front on prefix moment = record { owed = on.owed; stage = behind_front on.stage prefix moment }
 
   abbrev pub asks_proxy : Goal → Address → ℕ → List (Timed Event) → ℕ → Turn Stage Command
   asks_proxy goal address server prefix moment = record {
@@ -357,6 +387,7 @@ module _ (conv : ℕ) (client : Visitor) where
   turn_http from place standing prefix answer value = turn_flows place standing prefix answer
 
   abbrev pub turn : Stage → List (Timed Event) → Timed Reply → Turn Stage Command
+  turn (asking front) prefix answer = turn_front (socks.turn front (client_closed prefix) answer.value) prefix answer.moment
   turn (http place standing) prefix answer = turn_http (led_at place standing) place standing prefix answer answer.value
   turn (connecting tunnel) prefix answer = turn_dial tunnel prefix answer.value answer.moment
   turn (socket ends flow frames) prefix answer =
@@ -370,5 +401,9 @@ module _ (conv : ℕ) (client : Visitor) where
 abbrev pub first_at : At
 first_at = record { flow = 0; dials = 0; parked = None }
 
+abbrev pub begins_by : Option Place → Stage
+begins_by (Some place) = http place (begin (idle first_at))
+begins_by None = asking fronts.greeting
+
 abbrev pub begins : Mode → Stage
-begins mode = http (place_of mode) (begin (idle first_at))
+begins mode = begins_by (place_of mode)

@@ -42,10 +42,14 @@ use Rattle.px_tunnel.specs.Laws.{both_append}
 use Rattle.px_tunnel.specs.Upstream.{Granting, awaited, granted, refused}
 use Rattle.px_relay.specs.Laws.{settles as frames_settle}
 use Rattle.px_relay.specs.Stages.{Stage as Frames}
-use Rattle.px_stack.specs.Chain.{answer_of, begun, connected_on, flows_at, follows, goes_by, hands_by, hands_over, has_answered, inner_place, inner_standing, is_shut, opening_text, or_stays, owed_at_handing, pass_http, pass_reached, pass_socket, proxy_at, raw_look, socket_sight, socket_terms, stack_chain, text_down, text_up, tunnel_for, tunnel_found, upgrades, way_to, pass_flows}
+use Rattle.px_socks.specs.Chain as socks
+use Rattle.px_socks.specs.LayerLaws.{settles_at}
+use Rattle.px_socks.specs.Stages as fronts
+use Rattle.px_socks.specs.Stages.{Stage as Front}
+use Rattle.px_stack.specs.Chain.{answer_of, at_front, begun, connected_on, flows_at, follows, front_sight, goes_by, hands_by, hands_over, has_answered, inner_place, inner_standing, is_shut, opening_text, or_stays, owed_at_handing, pass_http, pass_reached, pass_socket, proxy_at, raw_look, socket_sight, socket_terms, stack_chain, text_down, text_up, tunnel_for, tunnel_found, upgrades, way_to, pass_flows}
 use Rattle.px_stack.specs.Decides.{Decision, decided, is_http, is_raw, still}
 use Rattle.px_stack.specs.Sockets.{is_websocket}
-use Rattle.px_stack.specs.Stages.{Ends as TunnelEnds, Goal, Link, Stage, Tunnel, Visitor, a_flow, a_tunnel, connecting, http, over, raw, reaching, socket, undecided}
+use Rattle.px_stack.specs.Stages.{Ends as TunnelEnds, Goal, Link, Stage, Tunnel, Visitor, a_flow, a_tunnel, asking, connecting, http, over, raw, reaching, socket, undecided}
 
 -- ---- at one address nothing is a CONNECT
 
@@ -58,19 +62,19 @@ by_goal : (head : ReadRequest) (apart : head.method ≢ connect_method) (goal : 
 by_goal head apart None used = refl
 by_goal head apart (Some goal) used = by_length _ _ used
 
-by_method : (address : Address) (side : Option ℕ) (inside : Option Address) (head : ReadRequest) (connects : Bool)
+by_method : (address : Address) (inside : Option Address) (head : ReadRequest) (connects : Bool)
     (is : bytes_eq head.method connect_method ≡ connects) (used : ℕ) →
-    connect_by (judged_method (places.Fixed address side inside) head connects is) used ≡ None
-by_method address side inside head true is used = refl
-by_method address side inside head false is used = by_goal head _ _ used
+    connect_by (judged_method (places.Fixed address inside) head connects is) used ≡ None
+by_method address inside head true is used = refl
+by_method address inside head false is used = by_goal head _ _ used
 
-pub never_connects : (address : Address) (side : Option ℕ) (inside : Option Address) (item : Item ReadRequest) →
-    connect_in (places.Fixed address side inside) item ≡ None
-never_connects address side inside missing = refl
-never_connects address side inside (part head body) = refl
-never_connects address side inside (complete head body trailers used) = by_method address side inside head (bytes_eq head.method connect_method) refl used
-never_connects address side inside (bad_head fault) = refl
-never_connects address side inside (bad_body fault head body) = refl
+pub never_connects : (address : Address) (inside : Option Address) (item : Item ReadRequest) →
+    connect_in (places.Fixed address inside) item ≡ None
+never_connects address inside missing = refl
+never_connects address inside (part head body) = refl
+never_connects address inside (complete head body trailers used) = by_method address inside head (bytes_eq head.method connect_method) refl used
+never_connects address inside (bad_head fault) = refl
+never_connects address inside (bad_body fault head body) = refl
 
 -- ---- where HTTP hands over
 
@@ -177,6 +181,7 @@ module _ (conv : ℕ) (client : Visitor) where
       record { stays = ap (λ to. socket ends flow to) at.stays; owes_nothing = at.owes_nothing }
 
   tunnel_settled : (stage : Stage) (prefix : List (Timed Event)) → IsTunnel stage → IsSettled (stack_chain conv client) (begun conv client stage prefix).stage prefix
+  tunnel_settled (asking front) prefix is = absurd is
   tunnel_settled (http place standing) prefix is = absurd is
   tunnel_settled (connecting tunnel) prefix is = record { stays = refl; owes_nothing = refl }
   tunnel_settled (reaching goal link since) prefix is = absurd is
@@ -217,7 +222,7 @@ module _ (conv : ℕ) (client : Visitor) where
       let inner : Standing = inner_standing tunnel link since in
       let at : At = unspoilt_at (place_of inner.stage) (sight_over inner prefix) in
       stays_settled (inner_place tunnel link) inner prefix (record { stays = refl; owes_nothing = refl })
-      (ap (tunnel_for (inner_place tunnel link) inner.used.client at) (never_connects tunnel.address (Some link.server) tunnel.proxy (request_in (sight_over inner prefix))))
+      (ap (tunnel_for (inner_place tunnel link) inner.used.client at) (never_connects tunnel.address tunnel.proxy (request_in (sight_over inner prefix))))
   decided_settled tunnel link since prefix is_raw unclosed is = record { stays = refl; owes_nothing = refl }
 
   goes_settled : (tunnel : Tunnel) (link : Link) (since : Since) (prefix : List (Timed Event)) (closed : Bool) → client_closed prefix ≡ closed →
@@ -246,7 +251,21 @@ module _ (conv : ℕ) (client : Visitor) where
   reached_settled (a_tunnel tunnel) link since prefix refused is = record { stays = refl; owes_nothing = refl }
   reached_settled (a_flow place from) link since prefix refused is = record { stays = refl; owes_nothing = refl }
 
+  -- a client of SOCKS, where its bytes were judged
+  asking_settled : (front : Front) (prefix : List (Timed Event)) → socks.pass front (front_sight prefix) ≡ record { owed = []; stage = front } → at_front front ≡ asking front →
+      IsSettled (stack_chain conv client) (asking front) prefix
+  asking_settled front prefix is here = record { stays = ap (λ on. at_front on.stage) is ∙ here; owes_nothing = ap (λ on. on.owed) is }
+
+  front_settled : (front : Front) (prefix : List (Timed Event)) → socks.pass front (front_sight prefix) ≡ record { owed = []; stage = front } →
+      IsSettled (stack_chain conv client) (at_front front) prefix
+  front_settled fronts.greeting prefix is = asking_settled fronts.greeting prefix is refl
+  front_settled (fronts.requesting used) prefix is = asking_settled (fronts.requesting used) prefix is refl
+  front_settled (fronts.dialling used address) prefix is = asking_settled (fronts.dialling used address) prefix is refl
+  front_settled (fronts.opened used address) prefix is = asking_settled (fronts.opened used address) prefix is refl
+  front_settled fronts.over prefix is = record { stays = refl; owes_nothing = refl }
+
   settled_at : (stage : Stage) (prefix : List (Timed Event)) → IsSettled (stack_chain conv client) ((stack_chain conv client).pass stage prefix).stage prefix
+  settled_at (asking front) prefix = front_settled (socks.pass front (front_sight prefix)).stage prefix (settles_at front (front_sight prefix))
   settled_at (http place standing) prefix = flows_settled place standing prefix
   settled_at (connecting tunnel) prefix = record { stays = refl; owes_nothing = refl }
   settled_at (reaching goal link since) prefix = reached_settled goal link since prefix (answer_of link prefix) refl
@@ -352,6 +371,7 @@ module _ (conv : ℕ) (client : Visitor) where
 
     grows_at : (stage : Stage) (prefix : List (Timed Event)) (event : Timed Event) → (stack_chain conv client).look stage prefix ≡ NotYet →
         IsPrefixOf (seen_of view ((stack_chain conv client).so_far stage prefix)) (seen_of view (owed_over (stack_chain conv client) stage (prefix ++ event ∷ [])))
+    grows_at (asking front) prefix event is = (_, refl)
     grows_at (http place standing) prefix event is =
         let longer : List (Timed Event) = prefix ++ event ∷ [] in
         let on = (flows_at conv client place).pass standing longer in

@@ -8,6 +8,7 @@ use Rattle.px_event.specs.declared.command.Command.TheVariants as commands
 use Rattle.px_event.specs.declared.event.Event.{Event}
 use Rattle.px_event.specs.declared.reply.Reply.{Reply}
 use Rattle.px_event.specs.declared.reply.Reply.TheVariants as reply
+use Rattle.px_event.specs.declared.side.Side.TheVariants.{Client, Server}
 use Rattle.px_event.specs.Chain.{Timed, Turn, found}
 use Rattle.px_event.specs.Layer.{Move}
 use Rattle.px_event.specs.Stands.{due_by}
@@ -32,13 +33,17 @@ use Rattle.px_relay.specs.Chain as relay
 use Rattle.px_relay.specs.Sending.{Terms}
 use Rattle.px_relay.specs.Sights.{Sight as SocketSight}
 use Rattle.px_relay.specs.Stages.{Stage as Frames, holding, over as ended, relaying}
-use Rattle.px_stack.specs.Chain.{answer_of, begun, connected_on, closed_before, closes_all, finished_flow, flows_at, follows, goes_by, hands_by, hands_over, has_answered, is_shut, led_at, led_by, opening_text, or_stays, owed_at_handing, shut_parked, pass_http, pass_reached, pass_socket, socket_sight, socket_terms, stack_chain, tunnel_for, tunnel_found, turn_connected, turn_dial, turn_http, upgrades, used_proxy, way_to, pass_flows}
+use Rattle.px_socks.specs.Chain as socks
+use Rattle.px_socks.specs.FrontLaws.{AllToClient, pass_to_client, turn_to_client}
+use Rattle.px_socks.specs.Stages as fronts
+use Rattle.px_socks.specs.Stages.{Stage as Front}
+use Rattle.px_stack.specs.Chain.{answer_of, at_front, behind_front, begun, connected_on, closed_before, closes_all, finished_flow, flows_at, follows, front_sight, goes_by, hands_by, hands_over, has_answered, is_shut, led_at, led_by, opening_text, or_stays, owed_at_handing, shut_parked, pass_http, pass_reached, pass_socket, socket_sight, socket_terms, stack_chain, tunnel_for, tunnel_found, turn_connected, turn_dial, turn_http, upgrades, used_proxy, way_to, pass_flows}
 use Rattle.px_stack.specs.Decides.{Decision, decided, is_http, is_raw, still}
 use Rattle.px_stack.specs.Frames.{AreSaid, pass_says, turn_says}
 use Rattle.px_stack.specs.Laws.{handing_owes}
 use Rattle.px_stack.specs.Sockets.{is_websocket}
 use Rattle.px_stream.specs.Anywhere.{reached_owes}
-use Rattle.px_stack.specs.Stages.{Dialling, Ends as TunnelEnds, Goal, Link, Stage, Tunnel, Visitor, a_flow, a_tunnel, connecting, http, over, raw, reaching, socket, undecided}
+use Rattle.px_stack.specs.Stages.{Dialling, Ends as TunnelEnds, Goal, Link, Stage, Tunnel, Visitor, a_flow, a_tunnel, asking, connecting, http, over, raw, reaching, socket, undecided}
 
 -- the flow of a place is the conversation's, and so are the one that became a tunnel and the one for which a proxy is asked
 abbrev pub IsFlowOf : ℕ → Option Flow → Type 0
@@ -110,9 +115,42 @@ module _ (conv : ℕ) where
   frames_named terms (holding from message at) is = ((is, refl), tt)
   frames_named terms ended is = tt
 
+  -- a client of SOCKS is told something, or closed
+  clients_named : (owed : List Command) → AllToClient owed → AllNamed conv owed
+  clients_named [] are = tt
+  clients_named (commands.Send Client text ∷ owed) (here, are) = (tt, clients_named owed are)
+  clients_named (commands.Send (Server server) text ∷ owed) (here, are) = absurd here
+  clients_named (commands.Close Client ∷ owed) (here, are) = (tt, clients_named owed are)
+  clients_named (commands.Close (Server server) ∷ owed) (here, are) = absurd here
+  clients_named (commands.Dial server address inside ∷ owed) (here, are) = absurd here
+  clients_named (commands.Ask ask flow ∷ owed) (here, are) = absurd here
+  clients_named (commands.Done flow ∷ owed) (here, are) = absurd here
+
+  front_named : (front : Front) → AllNamed conv (found (socks.look front))
+  front_named fronts.greeting = tt
+  front_named (fronts.requesting used) = tt
+  front_named (fronts.dialling used address) = (tt, tt)
+  front_named (fronts.opened used address) = tt
+  front_named fronts.over = tt
+
   -- ---- the chain
 
   module _ (client : Visitor) where
+    -- a client of SOCKS has no flow
+    front_is : (front : Front) → IsOfIt conv client (at_front front)
+    front_is fronts.greeting = tt
+    front_is (fronts.requesting used) = tt
+    front_is (fronts.dialling used address) = tt
+    front_is (fronts.opened used address) = tt
+    front_is fronts.over = tt
+
+    behind_is : (front : Front) (prefix : List (Timed Event)) (moment : ℕ) → IsOfIt conv client (behind_front conv client front prefix moment)
+    behind_is fronts.greeting prefix moment = tt
+    behind_is (fronts.requesting used) prefix moment = tt
+    behind_is (fronts.dialling used address) prefix moment = tt
+    behind_is (fronts.opened used address) prefix moment = tt
+    behind_is fronts.over prefix moment = tt
+
     -- where HTTP hands over
     tunnel_is : (place : Place) (standing : Standing) (used : ℕ) (at : At) (connect : Option Connect) → IsOf (terms_of conv client.address place) (OfConversation conv) standing.stage →
         IsOfIt conv client (or_stays (http place standing) (tunnel_for place used at connect))
@@ -161,6 +199,7 @@ module _ (conv : ℕ) where
         (said_named terms on.stage is on.owed (pass_says terms (socket_sight ends prefix) frames), is)
 
     begun_is : (stage : Stage) (prefix : List (Timed Event)) → IsOfIt conv client stage → IsNamedTurn (begun conv client stage prefix)
+    begun_is (asking front) prefix is = (tt, tt)
     begun_is (http place standing) prefix is = (tt, is)
     begun_is (connecting tunnel) prefix is = (tt, tt)
     begun_is (reaching goal link since) prefix is = (tt, is)
@@ -199,6 +238,8 @@ module _ (conv : ℕ) where
 
     passes : (stage : Stage) (prefix : List (Timed Event)) → IsOfIt conv client stage →
         AllNamed conv ((stack_chain conv client).pass stage prefix).owed × IsOfIt conv client ((stack_chain conv client).pass stage prefix).stage
+    passes (asking front) prefix is =
+        let on : Turn Front Command = socks.pass front (front_sight prefix) in (clients_named on.owed (pass_to_client front (front_sight prefix)), front_is on.stage)
     passes (http place standing) prefix is = flows_pass place standing prefix is
     passes (connecting tunnel) prefix is = (tt, tt)
     passes (reaching goal link since) prefix is = reached_is goal link since prefix (answer_of link prefix) is
@@ -208,6 +249,7 @@ module _ (conv : ℕ) where
     passes over prefix is = (tt, tt)
 
     looks : (stage : Stage) (prefix : List (Timed Event)) → IsOfIt conv client stage → AllNamed conv (found ((stack_chain conv client).look stage prefix))
+    looks (asking front) prefix is = front_named front
     looks (http place standing) prefix is = (its_flows place).look standing prefix is
     looks (connecting tunnel) prefix is = (tt, tt)
     looks (reaching goal link since) prefix is = tt
@@ -225,6 +267,7 @@ module _ (conv : ℕ) where
     looks over prefix is = tt
 
     waits : (stage : Stage) (prefix : List (Timed Event)) → IsOfIt conv client stage → AllNamed conv ((stack_chain conv client).so_far stage prefix)
+    waits (asking front) prefix is = tt
     waits (http place standing) prefix is = (its_flows place).so_far standing prefix is
     waits (connecting tunnel) prefix is = tt
     waits (reaching goal link since) prefix is = tt
@@ -234,6 +277,7 @@ module _ (conv : ℕ) where
     waits over prefix is = tt
 
     parts : (stage : Stage) (prefix : List (Timed Event)) → IsOfIt conv client stage → AllNamed conv ((stack_chain conv client).behind stage prefix)
+    parts (asking front) prefix is = tt
     parts (http place standing) prefix is = (its_flows place).behind standing prefix is
     parts (connecting tunnel) prefix is = parked_named tunnel.at.parked
     parts (reaching goal link since) prefix is = tt
@@ -276,8 +320,8 @@ module _ (conv : ℕ) where
     led_is : (place : Place) (standing : Standing) → IsOf (terms_of conv client.address place) (OfConversation conv) standing.stage → IsLedOf (led_at place standing)
     led_is places.Regular standing is = tt
     led_is (places.Upstream proxy) standing is = tt
-    led_is (places.Fixed address side None) standing is = tt
-    led_is (places.Fixed address side (Some proxy)) standing is = led_is_by (places.Fixed address side (Some proxy)) standing.used.client standing.stage is
+    led_is (places.Fixed address None) standing is = tt
+    led_is (places.Fixed address (Some proxy)) standing is = led_is_by (places.Fixed address (Some proxy)) standing.used.client standing.stage is
 
     http_turns : (led : Option Dialling) (place : Place) (standing : Standing) (prefix : List (Timed Event)) (answer : Timed Reply) (value : Reply) → IsLedOf led →
         IsOfIt conv client (http place standing) → IsNamedTurn (turn_http conv client led place standing prefix answer value)
@@ -291,6 +335,9 @@ module _ (conv : ℕ) where
 
     turns : (stage : Stage) (prefix : List (Timed Event)) (answer : Timed Reply) → IsOfIt conv client stage →
         AllNamed conv ((stack_chain conv client).turn stage prefix answer).owed × IsOfIt conv client ((stack_chain conv client).turn stage prefix answer).stage
+    turns (asking front) prefix answer is =
+        let on : Turn Front Command = socks.turn front (client_closed prefix) answer.value in
+        (clients_named on.owed (turn_to_client front (client_closed prefix) answer.value), behind_is on.stage prefix answer.moment)
     turns (http place standing) prefix answer is = http_turns (led_at place standing) place standing prefix answer answer.value (led_is place standing is) is
     turns (connecting tunnel) prefix answer is = dial_turns tunnel prefix answer.value answer.moment
     turns (reaching goal link since) prefix answer is = (tt, is)

@@ -15,7 +15,8 @@ use Rattle.px_stack.specs.declared.child.Child.TheVariants as children
 use Rattle.px_stack.specs.declared.stack.Stack.{Stack}
 use Rattle.px_stack.specs.Chain.{stack_chain}
 use Rattle.px_stack.specs.Kept.{awaited_by}
-use Rattle.px_stack.specs.Stages.{Stage, Visitor, http, over}
+use Rattle.px_socks.specs.Stages.{greeting}
+use Rattle.px_stack.specs.Stages.{Stage, Visitor, asking, http, over}
 use Rattle.px_stack.specs.Stands.{IsChild}
 
 -- its client, and the key of masks
@@ -26,9 +27,10 @@ visitor_of made = record { address = made.client; key = key_of made.mask_key }
 abbrev pub chain_of : Stack → Chain Stage Event Reply Command
 chain_of made = stack_chain made.conv (visitor_of made)
 
--- where it starts: one that was made has HTTP
+-- where it starts: one that was made has HTTP, or a client of SOCKS
 abbrev pub start_by : Child → Stage
 start_by (children.Http flows) = http flows.value.stream.terms.place (begin (idle flows.value.stream.at))
+start_by (children.Asking layer) = asking greeting
 start_by child = over
 
 abbrev pub start_of : Stack → Stage

@@ -16,16 +16,21 @@ use Rattle.px_relay.specs.declared.layer.WsLayer.{WsLayer}
 use Rattle.px_relay.specs.Chain.{look as frames_look}
 use Rattle.px_relay.specs.Stages.{Stage as Frames, holding, over as frames_over, relaying}
 use Rattle.px_relay.specs.Stands.{awaited_in, awaits as frames_awaits}
+use Rattle.px_socks.specs.declared.layer.SocksLayer.{SocksLayer}
+use Rattle.px_socks.specs.Chain as socks
+use Rattle.px_socks.specs.Stages as fronts
+use Rattle.px_socks.specs.Stages.{Sight as FrontSight, Stage as Front}
+use Rattle.px_socks.specs.Stands.{IsIn as IsInFront, awaits as front_awaits, awaits_in as front_awaits_in}
 use Rattle.px_stream.proofs.StateLaws.{awaits_what_it_asks}
 use Rattle.px_stack.specs.declared.child.Child.{Child}
 use Rattle.px_stack.specs.declared.child.Child.TheVariants as children
 use Rattle.px_stack.specs.declared.stack.Stack.{Stack}
-use Rattle.px_stack.specs.Chain.{socket_terms, stack_chain, tunnel_found}
+use Rattle.px_stack.specs.Chain.{front_sight, socket_terms, stack_chain, tunnel_found}
 use Rattle.px_stack.specs.Kept.{awaited_by, is_over}
 use Rattle.px_stack.specs.Laws.{settles, so_far_grows}
 use Rattle.px_stack.specs.Names.{IsOfIt, stack_names}
 use Rattle.px_stack.specs.Stack.{IsAt, StackStands, awaits, chain_of, start_by, start_of, visitor_of}
-use Rattle.px_stack.specs.Stages.{Ends as TunnelEnds, Stage, Visitor, connecting, http, over, raw, reaching, socket, undecided}
+use Rattle.px_stack.specs.Stages.{Ends as TunnelEnds, Stage, Visitor, asking, connecting, http, over, raw, reaching, socket, undecided}
 use Rattle.px_stack.specs.Stands.{IsChild, IsFraming, Keeps, KeepsBy}
 
 -- ---- what is found in HTTP and in a tunnel
@@ -33,6 +38,21 @@ use Rattle.px_stack.specs.Stands.{IsChild, IsFraming, Keeps, KeepsBy}
 never_asks : (ends : Bool) (owed : List Command) (ask : Command) → tunnel_found ends owed ≡ Asks ask → ⊥
 never_asks true owed ask is = let no : Ends owed ≡ Asks ask = is in cc
 never_asks false owed ask is = let no : NotYet ≡ Asks ask = is in cc
+
+-- a client of SOCKS asks exactly where its stage does
+front_free : (front : Front) (layer : SocksLayer) (seen : FrontSight) → IsInFront layer front seen → front_awaits layer ≡ None → (ask : Command) → socks.look front ≡ Asks ask → ⊥
+front_free fronts.greeting layer seen is free ask asks = let no : NotYet ≡ Asks ask = asks in cc
+front_free (fronts.requesting used) layer seen is free ask asks = let no : NotYet ≡ Asks ask = asks in cc
+front_free (fronts.dialling used address) layer seen is free ask asks = let no : Some _ ≡ None = ap front_awaits_in (sym is.phase_is) ∙ free in cc
+front_free (fronts.opened used address) layer seen is free ask asks = let no : Ends [] ≡ Asks ask = asks in cc
+front_free fronts.over layer seen is free ask asks = let no : Ends [] ≡ Asks ask = asks in cc
+
+front_waits : (front : Front) (layer : SocksLayer) (seen : FrontSight) → IsInFront layer front seen → (ask : Ask) → front_awaits layer ≡ Some ask → socks.look front ≡ NotYet → ⊥
+front_waits fronts.greeting layer seen is ask waits found = let no : None ≡ Some ask = ap front_awaits_in (sym is.phase_is) ∙ waits in cc
+front_waits (fronts.requesting used) layer seen is ask waits found = let no : None ≡ Some ask = ap front_awaits_in (sym is.phase_is) ∙ waits in cc
+front_waits (fronts.dialling used address) layer seen is ask waits found = let no : socks.look (fronts.dialling used address) ≡ NotYet = found in cc
+front_waits (fronts.opened used address) layer seen is ask waits found = let no : Ends [] ≡ NotYet = found in cc
+front_waits fronts.over layer seen is ask waits found = let no : Ends [] ≡ NotYet = found in cc
 
 -- a WebSocket's layer asks exactly where its stage does
 socket_free : (key : List ℕ) (ends : TunnelEnds) (flow : Flow) (frames : Frames) (prefix : List (Timed Event)) (layer : WsLayer) → IsFraming key ends flow frames prefix layer →
@@ -55,6 +75,8 @@ module _ (conv : ℕ) (client : Visitor) where
 
   free_by : (child : Child) (stage : Stage) (prefix : List (Timed Event)) (ask : Command) → Keeps conv client child stage prefix → awaited_by child ≡ None →
       (stack_chain conv client).look stage prefix ≡ Asks ask → ⊥
+  free_by child (asking front) prefix ask kept free asks =
+      front_free front kept.layer (front_sight prefix) kept.there (ap awaited_by (sym kept.is) ∙ free) ask asks
   free_by child (http place standing) prefix ask kept free asks =
       (awaits_what_it_asks sequence (terms_of conv client.address place)).free kept.flows.value.stream standing prefix ask kept.there.is_at
       (ap awaited_by (sym kept.is) ∙ free) asks
@@ -69,6 +91,8 @@ module _ (conv : ℕ) (client : Visitor) where
 
   waits_by : (child : Child) (stage : Stage) (prefix : List (Timed Event)) (ask : Ask) → Keeps conv client child stage prefix → awaited_by child ≡ Some ask →
       (stack_chain conv client).look stage prefix ≡ NotYet → ⊥
+  waits_by child (asking front) prefix ask kept waits found =
+      front_waits front kept.layer (front_sight prefix) kept.there ask (ap awaited_by (sym kept.is) ∙ waits) found
   waits_by child (http place standing) prefix ask kept waits found =
       let asked = (awaits_what_it_asks sequence (terms_of conv client.address place)).asks kept.flows.value.stream standing prefix ask kept.there.is_at (ap awaited_by (sym kept.is) ∙ waits) in
       let no : Asks asked.0 ≡ NotYet = sym asked.1 ∙ found in cc
@@ -91,6 +115,7 @@ module _ (conv : ℕ) (client : Visitor) where
   -- ---- whether it has ended
 
   goes_on : (child : Child) (stage : Stage) (prefix : List (Timed Event)) → Keeps conv client child stage prefix → is_over child ≡ true → ⊥
+  goes_on child (asking front) prefix kept ended = let no : false ≡ true = ap is_over (sym kept.is) ∙ ended in cc
   goes_on child (http place standing) prefix kept ended = let no : false ≡ true = ap is_over (sym kept.is) ∙ ended in cc
   goes_on child (connecting tunnel) prefix kept ended = let no : false ≡ true = ap is_over (sym kept.is) ∙ ended in cc
   goes_on child (reaching goal link since) prefix kept ended = let no : false ≡ true = ap is_over (sym kept.is) ∙ ended in cc
@@ -140,6 +165,7 @@ ends_there made = record {
 -- ---- its number
 
 start_is : (conv : ℕ) (client : Visitor) (child : Child) → IsOfIt conv client (start_by child)
+start_is conv client (children.Asking layer) = tt
 start_is conv client (children.Http flows) = refl
 start_is conv client (children.Connecting opening closed) = tt
 start_is conv client (children.Reaching kept) = tt

@@ -1,4 +1,4 @@
--- Where a conversation stands: HTTP at some place, a CONNECT that waits for its server, another proxy that is asked for a tunnel, a tunnel of
+-- Where a conversation stands: a client of SOCKS that says where it goes, HTTP at some place, a CONNECT that waits for its server, another proxy that is asked for a tunnel, a tunnel of
 -- which nothing is decided yet, one whose bytes go both ways unread, or a WebSocket.
 use Rattle.std.specs.Prelude.{ℕ, List, Option}
 use Rattle.px_message.specs.declared.address.Address.{Address}
@@ -8,6 +8,7 @@ use Rattle.px_chain.specs.Sights.{Standing}
 use Rattle.px_chain.specs.Stages.{At, Sent}
 use Rattle.px_chain.specs.Streams.{Since}
 use Rattle.px_relay.specs.Stages.{Stage as Frames}
+use Rattle.px_socks.specs.Stages.{Stage as Front}
 
 -- Who is at the other end of a conversation: where the client is, if it is known, and the eight words of the key by which frames of a
 -- WebSocket to its servers are masked.
@@ -15,7 +16,7 @@ pub record Visitor : Type 0 where
   pub address : Option Address
   pub key : List ℕ
 
--- A CONNECT: where in its conversation it stands, how many of the client's bytes were used up to the end of its head, where it asks for a
+-- A CONNECT, or a client of SOCKS whose request was read: where in its conversation it stands, how many of the client's bytes were used up to the end of its head or request, where it asks for a
 -- tunnel to, and the proxy through which that is reached, if there is one.
 pub record Tunnel : Type 0 where
   pub at : At
@@ -50,6 +51,8 @@ pub data Goal : Type 0 where
   a_flow : (place : Place) (dialling : Dialling) → Goal
 
 pub data Stage : Type 0 where
+  -- a client of SOCKS, before its own bytes come
+  asking : (front : Front) → Stage
   -- HTTP, whose requests go to this place
   http : (place : Place) (standing : Standing) → Stage
   -- a CONNECT was read, and its server is dialled

@@ -1,5 +1,5 @@
 -- Where a conversation is: what it keeps at a stage and over a prefix.
-use Rattle.std.specs.Prelude.{◌≡◌, ◌≤◌, ◌<◌, ◌+◌, ℕ, Bool, true, false, List, length, drop, Some}
+use Rattle.std.specs.Prelude.{◌≡◌, ◌≤◌, ◌<◌, ◌+◌, ℕ, Bool, true, false, List, [], length, drop, Option, Some, None}
 use Rattle.std.specs.Global.{Box}
 use Rattle.px_event.specs.declared.command.Command.{Command}
 use Rattle.px_event.specs.declared.event.Event.{Event}
@@ -14,11 +14,16 @@ use Rattle.px_chain.specs.Sights.{Standing, sight_over}
 use Rattle.px_chain.specs.Stages.{At, busy, connection, unparked}
 use Rattle.px_chain.specs.Streams.{Since, bytes_of, client_closed}
 use Rattle.px_http.specs.declared.conversation.HttpConv.{HttpConv}
+use Rattle.px_http.specs.Stands.{HttpStands}
+use Rattle.px_message.specs.declared.address.Address.{Address}
 use Rattle.px_message.specs.declared.flow.Flow.{Flow}
 use Rattle.px_relay.specs.declared.layer.WsLayer.{WsLayer}
 use Rattle.px_relay.specs.Sights.{no_rests as nothing_left}
 use Rattle.px_relay.specs.Stages.{Stage as Frames}
 use Rattle.px_relay.specs.Stands.{IsIn}
+use Rattle.px_socks.specs.declared.layer.SocksLayer.{SocksLayer}
+use Rattle.px_socks.specs.Stages.{Stage as Front, greeting, nothing_seen}
+use Rattle.px_socks.specs.Stands.{IsIn as IsInFront}
 use Rattle.px_stream.specs.Anywhere.{IsInSequence}
 use Rattle.px_stream.specs.Tells.{IsDialling}
 use Rattle.px_tunnel.specs.Reaching.{HasHeard}
@@ -31,15 +36,15 @@ use Rattle.px_stack.specs.declared.child.Goal.TheVariants as goals
 use Rattle.px_stack.specs.declared.child.Opening.{Opening}
 use Rattle.px_stack.specs.declared.child.Reaching.{Reaching}
 use Rattle.px_stack.specs.declared.child.Relay.{Relay}
-use Rattle.px_stack.specs.Chain.{closed_before, closed_of, has_answered, opening_text, socket_sight, socket_terms, stack_chain, text_of}
+use Rattle.px_stack.specs.Chain.{closed_before, closed_of, first_at, front_sight, has_answered, opening_text, socket_sight, socket_terms, stack_chain, text_of}
 use Rattle.px_stack.specs.Decides.{decided, still}
-use Rattle.px_stack.specs.Stages.{Dialling, Ends as TunnelEnds, Goal, Link, Stage, Tunnel, Visitor, a_flow, a_tunnel, connecting, http, over, raw, reaching, socket, undecided}
+use Rattle.px_stack.specs.Stages.{Dialling, Ends as TunnelEnds, Goal, Link, Stage, Tunnel, Visitor, a_flow, a_tunnel, asking, connecting, http, over, raw, reaching, socket, undecided}
 
 -- ---- HTTP
 
 -- how many servers more than flows there may have been before HTTP began at a place: a side that is connected was dialled by no flow
 abbrev pub ahead_at : Place → ℕ
-ahead_at (places.Fixed address (Some server) inside) = 1
+ahead_at (places.Fixed address inside) = 1
 ahead_at place = 0
 
 abbrev pub IsInFlows : ℕ → Visitor → Place → HttpConv → Standing → List (Timed Event) → Type 0
@@ -121,6 +126,11 @@ pub record IsFraming (key : List ℕ) (ends : TunnelEnds) (flow : Flow) (frames 
 
 -- ---- by the stage
 
+pub record IsAsking (front : Front) (prefix : List (Timed Event)) (child : Child) : Type 0 where
+  pub layer : SocksLayer
+  pub is : child ≡ children.Asking layer
+  pub there : IsInFront layer front (front_sight prefix)
+
 pub record IsHttp (conv : ℕ) (client : Visitor) (place : Place) (standing : Standing) (prefix : List (Timed Event)) (child : Child) : Type 0 where
   pub flows : Box HttpConv
   pub is : child ≡ children.Http flows
@@ -164,7 +174,25 @@ pub record IsSocket (key : List ℕ) (ends : TunnelEnds) (flow : Flow) (frames :
   pub is : child ≡ children.Socket layer
   pub framing : IsFraming key ends flow frames prefix layer.value
 
+-- what a conversation of this number begins with, whose client is there: HTTP at its place, or SOCKS
+pub record IsFirstHttp (conv : ℕ) (peer : Address) (place : Place) (child : Child) : Type 0 where
+  pub flows : Box HttpConv
+  pub is : child ≡ children.Http flows
+  pub terms : flows.value.stream.terms ≡ terms_of conv (Some peer) place
+  pub at : flows.value.stream.at ≡ first_at
+  pub stands : HttpStands flows.value flows.value [] []
+
+pub record IsFirstAsking (child : Child) : Type 0 where
+  pub layer : SocksLayer
+  pub is : child ≡ children.Asking layer
+  pub there : IsInFront layer greeting nothing_seen
+
+abbrev pub IsFirst : ℕ → Address → Option Place → Child → Type 0
+IsFirst conv peer (Some place) child = IsFirstHttp conv peer place child
+IsFirst conv peer None child = IsFirstAsking child
+
 abbrev pub Keeps : ℕ → Visitor → Child → Stage → List (Timed Event) → Type 0
+Keeps conv client child (asking front) prefix = IsAsking front prefix child
 Keeps conv client child (http place standing) prefix = IsHttp conv client place standing prefix child
 Keeps conv client child (connecting tunnel) prefix = IsConnecting tunnel prefix child
 Keeps conv client child (reaching goal link since) prefix = IsReaching conv client goal link since prefix child

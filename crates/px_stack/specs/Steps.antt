@@ -29,6 +29,9 @@ use Rattle.px_relay.specs.declared.layer.WsLayer.{WsLayer}
 use Rattle.px_relay.specs.Chain.{begins_at}
 use Rattle.px_relay.specs.Stages.{relaying}
 use Rattle.px_relay.specs.Stands.{is_over as has_ended_in}
+use Rattle.px_socks.specs.declared.layer.SocksLayer.{SocksLayer}
+use Rattle.px_socks.specs.declared.layer.SocksTunnel.{SocksTunnel}
+use Rattle.px_socks.specs.Stands.{is_over as front_is_over}
 use Rattle.px_stream.specs.Anywhere.{reached_owes}
 use Rattle.px_stream.specs.Tells.{led_to, sequence_left}
 use Rattle.px_tunnel.specs.declared.tunnel.RawTunnel.{RawTunnel}
@@ -105,6 +108,20 @@ pub record GoesOn (kept : Relay) (event : Event) (next : Child) (out longer : Li
   pub rests : rests_of tunnel ≡ left_behind (rests_of kept.tunnel) event
   pub closed : has_ended tunnel ≡ is_alone (left_alone (server_of kept.tunnel) event)
   pub gives : longer ≡ out ++ given_for (server_of kept.tunnel) (rests_of kept.tunnel) event
+
+-- ---- a client of SOCKS
+
+-- behind a call: it goes on, or all is over
+abbrev pub front_comes_by : Bool → SocksLayer → Child
+front_comes_by true layer = children.Over
+front_comes_by false layer = children.Asking layer
+
+abbrev pub front_comes_to : SocksLayer → Child
+front_comes_to layer = front_comes_by (front_is_over layer.phase) layer
+
+-- the tunnel that it asked for
+abbrev pub opening_in : SocksTunnel → Opening
+opening_in tunnel = record { flow = 0; dials = 1; address = tunnel.address; proxy = None; rest = tunnel.rest }
 
 -- ---- a WebSocket
 

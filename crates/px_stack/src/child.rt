@@ -11,10 +11,11 @@ use px_event::{Ask, Layer};
 use px_http::HttpConv;
 use px_message::{Address, Flow};
 use px_relay::WsLayer;
+use px_socks::SocksLayer;
 use px_text::Bytes;
 use px_tunnel::{RawTunnel, UpstreamTunnel};
 
-/// A CONNECT that was read: the number of the flow that comes next, how many servers were dialled, which is the number of the next one,
+/// A CONNECT that was read, or the request of a client of SOCKS: the number of the flow that comes next, how many servers were dialled, which is the number of the next one,
 /// where it asks for a tunnel to, the proxy through which that is reached, if there is one, and what the client has sent behind it.
 #[derive(Drop)]
 pub struct Opening {
@@ -54,6 +55,8 @@ pub struct Relay {
 /// What a conversation keeps.
 #[derive(Drop)]
 pub enum Child {
+    /// A client of SOCKS, before its own bytes come.
+    Asking(SocksLayer),
     /// HTTP, at some place.
     Http(Box<HttpConv>),
     /// A CONNECT was read, and its server is dialled; whether the client has closed.
@@ -89,11 +92,12 @@ fn size_of_goal(goal: &Goal) -> usize
 }
 
 impl Child {
-    /// What is awaited: what HTTP does, the server of a CONNECT, or a message of a WebSocket.
+    /// What is awaited: what HTTP does, the server of a CONNECT or of a client of SOCKS, or a message of a WebSocket.
     pub fn waiting(&self) -> Option<Ask>
         ensures { result ≡ awaited_by self.now }
     {
         match self {
+            Child::Asking(layer) => layer.waiting(),
             Child::Http(http) => http.waiting(),
             Child::Connecting { opening, .. } => Some(Ask::Dial {
                 server: opening.dials,
@@ -103,13 +107,14 @@ impl Child {
         }
     }
 
-    /// How many bytes it keeps, or 2^64 - 1 where that is more: what HTTP or a WebSocket does, and those of a proxy's head. The bytes behind a
-    /// CONNECT wait for what follows, and do not count. In HTTP, where nothing is awaited and neither direction keeps a body, they are at most 2 * (65,536 + 1,024).
+    /// How many bytes it keeps, or 2^64 - 1 where that is more: what HTTP or a WebSocket does, those of a proxy's head, and those of a greeting or
+    /// request of SOCKS that is not whole. The bytes behind a CONNECT or such a request wait for what follows, and do not count. In HTTP, where nothing is awaited and neither direction keeps a body, they are at most 2 * (65,536 + 1,024).
     pub fn kept(&self) -> usize
         ensures kept { result ≡ min (kept_by self.now) (2 ^ 64 - 1) }
         ensures bound { (conv : ℕ) (client : Visitor) (stage : Stage) (prefix : List (Timed Heard)) → IsChild conv client self.now stage prefix → http_keeps_no_body self.now ≡ true → kept_by self.now ≤ 133120 }
     {
         match self {
+            Child::Asking(layer) => layer.kept(),
             Child::Http(http) => http.kept(),
             Child::Reaching(reaching) => reaching.kept(),
             Child::Socket(layer) => layer.kept(),

@@ -18,6 +18,10 @@
 //! not used, and asks about each whole message; frames to the server are masked by the key that `Stack::new` was handed. At its end its flow
 //! is finished. An extension may change what frames mean, so a connection with one is not read.
 //!
+//! In mode `socks5` a client first says by SOCKS5 (RFC 1928) which server it wants (px_socks). That is dialled as server 0, and once it is
+//! connected and the client was told so, the first bytes behind the request decide as behind a CONNECT: HTTP at the address that was asked for,
+//! on the side that is connected, or what is not read.
+//!
 //! In mode `upstream` the other proxy is dialled for a CONNECT, and asked for a tunnel to where the client asks to (px_tunnel); what the
 //! client sends meanwhile waits. An answer with a code from 200 to 299 makes the tunnel stand, and what comes behind its head is the
 //! server's: the client's bytes up to there decide what follows, and the server's do where those leave it open. Any other answer, a head
@@ -32,6 +36,7 @@
 //! requests go at first. What follows of the definitions stands in `laws`.
 #![tactic(auto)]
 
+mod asking;
 mod chained;
 mod child;
 mod closing;

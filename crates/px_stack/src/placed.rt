@@ -1,10 +1,18 @@
 //! Conversations whose requests go where the mode says.
-ghost use Rattle.std.specs.Prelude.{◌≡◌};
+ghost use Rattle.std.specs.Prelude.{◌≡◌, [], None, Some, IfOk};
+ghost use Rattle.px_exchange.specs.Places.{place_of, terms_of};
+ghost use Rattle.px_http.specs.Stands.{HttpStands};
+ghost use Rattle.px_stack.specs.Chain.{first_at};
+ghost use Rattle.px_stack.specs.Kept.{awaited_by};
+ghost use Rattle.px_stack.specs.Stands.{IsFirst};
 
+use crate::child::Child;
 use crate::stack::Stack;
-use px_exchange::Mode;
+use px_exchange::{Mode, Place};
+use px_http::HttpConv;
 use px_message::Address;
 use px_resend::ClientMaker;
+use px_socks::SocksLayer;
 use px_text::NoMemory;
 use std::alloc::Global;
 
@@ -40,4 +48,37 @@ impl ClientMaker<Stack> for Placed {
     fn make(&mut self, conv: u32, peer: &Address) -> Result<Stack, NoMemory> {
         Stack::new(self.alloc, &self.mode, conv, peer, self.mask_key)
     }
+}
+
+/// Where the conversation of a client there begins in this mode: HTTP at the mode's place, or what the client says by SOCKS.
+pub(crate) fn first_child(
+    alloc: Global,
+    mode: &Mode,
+    conv: u32,
+    peer: &Address,
+) -> Result<Child, NoMemory>
+    ensures first { IfOk result (λ child. IsFirst conv peer.now (place_of mode.now) child) }
+    ensures free { IfOk result (λ child. awaited_by child ≡ None) }
+{
+    match mode.place()? {
+        Some(place) => Ok(Child::Http(new_http(alloc, place, conv, peer)?)),
+        None => Ok(Child::Asking(SocksLayer::new(alloc))),
+    }
+}
+
+// HTTP at this place, of a client there.
+fn new_http(
+    alloc: Global,
+    place: Place,
+    conv: u32,
+    peer: &Address,
+) -> Result<Box<HttpConv>, NoMemory>
+    ensures terms { IfOk result (λ http. http.value.stream.terms ≡ terms_of conv (Some peer.now) place) }
+    ensures at { IfOk result (λ http. http.value.stream.at ≡ first_at) }
+    ensures stands { IfOk result (λ http. HttpStands http.value http.value [] []) }
+    ensures free { IfOk result (λ http. awaited_by (Child.Http http) ≡ None) }
+{
+    let client = Some(peer.try_clone()?);
+    let http = HttpConv::new(alloc, conv, client, place, None, 0, 0)?;
+    Ok(Box::new(alloc, http)?)
 }

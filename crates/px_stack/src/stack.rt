@@ -2,23 +2,24 @@
 ghost use Rattle.std.specs.Prelude.{◌≡◌, ◌≤◌, ◌<◌, ◌+◌, ◌++◌, ℕ, Bool, List, [], Option, Some, None, IfOk, OnOk, false};
 ghost use Rattle.rand_chacha.specs.ChaCha.{key_of};
 ghost use Rattle.px_event.specs.Layer.{AsksOnly, MayAnswer};
-ghost use Rattle.px_chain.specs.Chain.{parked_of};
-ghost use Rattle.px_exchange.specs.Places.{place_of, terms_of};
+ghost use Rattle.px_exchange.specs.Places.{terms_of};
 ghost use Rattle.px_exchange.specs.declared.ending.Used.TheVariants.{ByServer, NoServer};
-ghost use Rattle.px_http.specs.Stands.{HttpStands, awaits as http_awaits};
+ghost use Rattle.px_http.specs.Stands.{awaits as http_awaits};
 ghost use Rattle.px_stack.specs.Chain.{begins, unless_closed};
 ghost use Rattle.px_stack.specs.Kept.{awaited_by, goal_left, left_by, opened_left};
 ghost use Rattle.px_stack.specs.Stack.{StackStands, awaits, start_of, visitor_of};
 ghost use Rattle.px_stack.specs.Stands.{IsSomewhere};
 ghost use Rattle.px_stack.specs.Steps.{Adds, AsksFor, CanGoOn, CanReach, Decides, EndsRefused, GoesInside, IsFewDials, IsGoalSomewhere, IsPlain, Leads, LetsThrough, Relays, ResumesChild, TakesChild, Tells, TurnsAway};
 ghost use Rattle.px_stream.specs.Anywhere.{Begins, IsNew};
-ghost use Rattle.px_stream.specs.Tells.{IsDialling, IsSideBelow, dialled_flow, led_to, sequence_left};
+ghost use Rattle.px_stream.specs.Tells.{IsDialling, dialled_flow, led_to, sequence_left};
 ghost use Rattle.px_stack.specs.Stages.{Visitor};
 
+use crate::asking::{asking_takes, opening_in};
 use crate::child::{Child, Goal, Opening, Reaching};
 use crate::closing::{Sides, close_server, close_sides, closed_by};
 use crate::deciding::{has_method, may_have_method};
 use crate::following::follow;
+use crate::placed::first_child;
 use crate::reaching::{ProxySays, add, hear_goal, hear_proxy};
 use crate::relay::{begin_relay, relay_takes};
 use crate::socket::{Means, socket_resumes, socket_takes};
@@ -30,6 +31,8 @@ use px_exchange::texts::connected_text;
 use px_exchange::{Mode, Place};
 use px_http::HttpConv;
 use px_message::{Address, Fault};
+use px_socks::SocksLayer;
+use px_stream::Kept;
 use px_text::{Bytes, NoMemory};
 use px_tunnel::{UpstreamTunnel, connect_text};
 use std::alloc::Global;
@@ -48,7 +51,7 @@ pub struct Stack {
 
 impl Stack {
     /// The conversation of this number in this mode, whose client is at the other end of its connection there, with this key for the
-    /// masks of frames.
+    /// masks of frames. In a mode that has no place the client says by SOCKS where it goes.
     ///
     /// It stands for itself by no moves, has given nothing and awaits nothing.
     pub fn new(
@@ -66,13 +69,13 @@ impl Stack {
         ensures free { IfOk result (λ made. awaits made ≡ None) }
     {
         let client = Some(peer.try_clone()?);
-        let http = new_http(alloc, mode, conv, peer)?;
+        let child = first_child(alloc, mode, conv, peer)?;
         Ok(Stack {
             alloc,
             conv,
             client,
             mask_key,
-            child: Child::Http(http),
+            child,
         })
     }
 
@@ -101,6 +104,11 @@ impl Stack {
         ensures left { IfOk result (λ next. left_by next ≤ left_by child) }
     {
         match child {
+            Child::Asking(layer) => {
+                let taken = asking_takes(layer, &event, out);
+                drop(event);
+                taken
+            }
             Child::Http(http) => http_takes(self.means(), http, moment, event, out),
             Child::Connecting { .. } => unreachable!(),
             Child::Reaching(reaching) => {
@@ -311,12 +319,15 @@ impl Stack {
             proxy,
             rest: client,
         } = opening;
+        let kept = Kept {
+            side: server,
+            address: address.try_clone()?,
+        };
         let place = Place::Fixed {
             address,
-            side: Some(server),
             inside: proxy,
         };
-        let made = self.http_inside(place, flow, dials)?;
+        let made = self.http_inside(place, kept, flow, dials)?;
         let rests = Rests {
             client,
             server: rest,
@@ -325,17 +336,31 @@ impl Stack {
         follow(self.means(), moment, http, out)
     }
 
-    // HTTP in a tunnel, at this place, whose first flow has this number, and which goes on with this server.
-    fn http_inside(&self, place: Place, flow: u32, dials: u32) -> Result<Box<HttpConv>, NoMemory>
+    // HTTP in a tunnel, at this place, with the side that is connected; its first flow has this number, and so many servers were dialled.
+    fn http_inside(
+        &self,
+        place: Place,
+        kept: Kept,
+        flow: u32,
+        dials: u32,
+    ) -> Result<Box<HttpConv>, NoMemory>
         requires few { flow < 1000000 }
         requires dials { dials ≤ flow + 1 }
-        requires side { IsSideBelow place dials }
+        requires side { kept.server < dials }
         ensures terms { IfOk result (λ http. http.value.stream.terms ≡ terms_of self.now.conv self.now.client place) }
-        ensures at { IfOk result (λ http. http.value.stream.at ≡ record { flow = flow; dials = dials; parked = parked_of place }) }
+        ensures at { IfOk result (λ http. http.value.stream.at ≡ record { flow = flow; dials = dials; parked = Some kept }) }
         ensures new { IfOk result (λ http. IsNew http.value.stream) }
     {
         let client = copy_address(&self.client)?;
-        let http = HttpConv::new(self.alloc, self.conv, client, place, flow, dials)?;
+        let http = HttpConv::new(
+            self.alloc,
+            self.conv,
+            client,
+            place,
+            Some(kept),
+            flow,
+            dials,
+        )?;
         Ok(Box::new(self.alloc, http)?)
     }
 
@@ -354,6 +379,7 @@ impl Stack {
         ensures left { IfOk result (λ next. left_by next < left_by child) }
     {
         match child {
+            Child::Asking(layer) => self.asking_answers(layer, moment, reply, out),
             Child::Http(http) => self.http_answers(http, moment, reply, out),
             Child::Connecting { opening, closed } => {
                 self.dialled(opening, closed, moment, reply, out)
@@ -366,6 +392,29 @@ impl Stack {
             Child::Reaching(_) | Child::Undecided { .. } | Child::Raw(_) | Child::Over => {
                 unreachable!()
             }
+        }
+    }
+
+    // The dial of a client of SOCKS was answered: where it is connected, what it has sent behind its request decides.
+    fn asking_answers(
+        &self,
+        layer: SocksLayer,
+        moment: u64,
+        reply: Reply,
+        out: &mut Vec<Command>,
+    ) -> Result<Child, NoMemory>
+        requires somewhere { IsSomewhere self.now.conv (visitor_of self.now) (Child.Asking layer) }
+        requires answers { MayAnswer (awaited_by (Child.Asking layer)) reply }
+        ensures resumes { IfOk result (λ next. Adds (ResumesChild self.now.conv (visitor_of self.now) (Child.Asking layer) next moment reply) out.old.items out.new.items) }
+        ensures asks { IfOk result (λ next. AsksOnly (awaited_by next) out.old.items out.new.items) }
+        ensures left { IfOk result (λ next. left_by next < left_by (Child.Asking layer)) }
+    {
+        let mut layer = layer;
+        layer.answer(&reply, out)?;
+        drop(reply);
+        match layer.into_tunnel() {
+            Some(tunnel) => self.decide(opening_in(tunnel), 0, Bytes::empty(), moment, out),
+            None => Ok(Child::Over),
         }
     }
 
@@ -548,24 +597,6 @@ fn turn_away(now: Now, goal: Goal, used: Used, out: &mut Vec<Command>) -> Result
         }
         Goal::Flow(http) => refuse_flow(now, http, used, out),
     }
-}
-
-// HTTP at the place of this mode, of a client there.
-fn new_http(
-    alloc: Global,
-    mode: &Mode,
-    conv: u32,
-    peer: &Address,
-) -> Result<Box<HttpConv>, NoMemory>
-    ensures terms { IfOk result (λ http. http.value.stream.terms ≡ terms_of conv (Some peer.now) (place_of mode.now)) }
-    ensures at { IfOk result (λ http. http.value.stream.at ≡ record { flow = 0; dials = 0; parked = parked_of (place_of mode.now) }) }
-    ensures stands { IfOk result (λ http. HttpStands http.value http.value [] []) }
-    ensures free { IfOk result (λ http. awaited_by (Child.Http http) ≡ None) }
-{
-    let place = mode.place()?;
-    let client = Some(peer.try_clone()?);
-    let http = HttpConv::new(alloc, conv, client, place, 0, 0)?;
-    Ok(Box::new(alloc, http)?)
 }
 
 // HTTP begins with what the client has sent, and with what has come of the side that is parked.

@@ -12,4 +12,4 @@ use Rattle.px_stack.proofs.child.Child.kept.Goals as goal
 pub returns-in-Http-clause-bound : goal.returns-in-Http-clause-bound
 returns-in-Http-clause-bound c = λ conv client stage prefix is keeps.
     let P : HttpConv → Type 0 = λ h. (made : Terms) (place : Standing) (over : List (Timed Event)) → IsAt made h.stream place over → keeps_no_body h.stream.phase ≡ true → KeepsLittle h.stream in
-    http_little conv client c.args.self.now c.in-Http.http stage prefix c.in-Http.is (subst P c.deref.ensures c.kept.ensures.there) is keeps
+    http_little conv client c.args.self.now c.in-Http.http stage prefix c.in-Http.is (subst P c.deref.ensures c.kept-in-Http.ensures.there) is keeps
