@@ -9,7 +9,7 @@ const UNKNOWN: &str =
     "no option has this name: docs/options.md has all of them, and docs/mitmproxy.md says what stands for mitmproxy's";
 
 const MODE: &str =
-    "a mode is \"regular\", \"reverse:http://HOST:PORT\" or \"upstream:http://HOST:PORT\"";
+    "a mode is \"regular\", \"reverse:http://HOST:PORT\", \"upstream:http://HOST:PORT\" or \"socks5\"";
 
 const NO_TLS: &str = "https is not supported: a server and a proxy are asked by plain HTTP";
 

@@ -15,7 +15,7 @@ use Rattle.px_core.proofs.AnsweredLemmas.{whole_front}
 use Rattle.px_core.proofs.ResultLemmas.{same_some}
 use Rattle.px_exchange.specs.declared.mode.Mode.{Mode}
 use Rattle.px_exchange.specs.declared.mode.Mode.TheVariants as modes
-use Rattle.px_options.specs.Mode.{regular, reverse, upstream}
+use Rattle.px_options.specs.Mode.{regular, reverse, socks, upstream}
 use Rattle.px_options.specs.Values.{Place}
 use Rattle.px_options.specs.View.{mode_view, place}
 use Rattle.px_app.specs.Over.{Reaches, course_from}
@@ -181,12 +181,19 @@ pub same_mode : (mode wanted : Mode) → mode_view mode ≡ mode_view wanted →
 same_mode modes.Regular modes.Regular is = refl
 same_mode modes.Regular (modes.Reverse b) is = absurd (let wrong : regular ≡ reverse (place b) = is in cc)
 same_mode modes.Regular (modes.Upstream b) is = absurd (let wrong : regular ≡ upstream (place b) = is in cc)
+same_mode modes.Regular modes.Socks is = absurd (let wrong : regular ≡ socks = is in cc)
 same_mode (modes.Reverse a) modes.Regular is = absurd (let wrong : reverse (place a) ≡ regular = is in cc)
 same_mode (modes.Reverse a) (modes.Reverse b) is = ap modes.Reverse (same_address a b (same_reverse (place a) (place b) is))
 same_mode (modes.Reverse a) (modes.Upstream b) is = absurd (let wrong : reverse (place a) ≡ upstream (place b) = is in cc)
+same_mode (modes.Reverse a) modes.Socks is = absurd (let wrong : reverse (place a) ≡ socks = is in cc)
 same_mode (modes.Upstream a) modes.Regular is = absurd (let wrong : upstream (place a) ≡ regular = is in cc)
 same_mode (modes.Upstream a) (modes.Reverse b) is = absurd (let wrong : upstream (place a) ≡ reverse (place b) = is in cc)
 same_mode (modes.Upstream a) (modes.Upstream b) is = ap modes.Upstream (same_address a b (same_upstream (place a) (place b) is))
+same_mode (modes.Upstream a) modes.Socks is = absurd (let wrong : upstream (place a) ≡ socks = is in cc)
+same_mode modes.Socks modes.Regular is = absurd (let wrong : socks ≡ regular = is in cc)
+same_mode modes.Socks (modes.Reverse b) is = absurd (let wrong : socks ≡ reverse (place b) = is in cc)
+same_mode modes.Socks (modes.Upstream b) is = absurd (let wrong : socks ≡ upstream (place b) = is in cc)
+same_mode modes.Socks modes.Socks is = refl
 
 -- what is told is the trace
 pub told_trace : (P : Trace → Type 0) (told : Option Trace) (trace : Trace) → Told P told → told ≡ Some trace → P trace

@@ -1,4 +1,4 @@
--- The dials that are due in a conversation are numbered by their order: those of HTTP, that of a CONNECT, and those of HTTP inside it. A proxy
+-- The dials that are due in a conversation are numbered by their order: that for a client of SOCKS, those of HTTP, that of a CONNECT, and those of HTTP inside it. A proxy
 -- that is asked for a tunnel stands behind its dial, and a WebSocket dials nothing.
 use Rattle.std.proofs.Common.{◌≡◌, ◌∙◌, ℕ, ◌+◌, Bool, true, false, List, [], ◌∷◌, ◌++◌, length, Option, Some, None, refl, sym, ap, subst}
 use Rattle.std.specs.Prelude.{⊤, ◌||◌}
@@ -9,12 +9,13 @@ use Rattle.px_event.specs.declared.command.Command.TheVariants as commands
 use Rattle.px_event.specs.declared.event.Event.{Event}
 use Rattle.px_event.specs.declared.reply.Reply.{Reply}
 use Rattle.px_event.specs.declared.reply.Reply.TheVariants as reply
+use Rattle.px_event.specs.declared.side.Side.TheVariants.{Client, Server}
 use Rattle.px_event.specs.Chain.{Timed, Look, NotYet, Asks, Ends, Turn, found}
 use Rattle.px_event.specs.Layer.{Move}
 use Rattle.px_exchange.specs.declared.mode.Mode.{Mode}
 use Rattle.px_exchange.specs.declared.place.Place.{Place}
 use Rattle.px_exchange.specs.declared.place.Place.TheVariants as places
-use Rattle.px_exchange.specs.Places.{dialled_for, terms_of}
+use Rattle.px_exchange.specs.Places.{dialled_for, place_of, terms_of}
 use Rattle.px_exchange.specs.Endings.{shut_all, shut_client, shut_server}
 use Rattle.px_exchange.specs.declared.ending.Used.{Used}
 use Rattle.px_exchange.specs.declared.ending.Used.TheVariants.{NoServer, ByServer}
@@ -29,12 +30,16 @@ use Rattle.px_relay.specs.Chain as relay
 use Rattle.px_relay.specs.Sending.{Terms}
 use Rattle.px_relay.specs.Sights.{Sight as SocketSight}
 use Rattle.px_relay.specs.Stages.{Stage as Frames, holding, over as ended, relaying}
-use Rattle.px_stack.specs.Chain.{answer_of, begins, begun, closed_before, closes_all, connected_on, finished_flow, flows_at, follows, goes_by, hands_by, hands_over, has_answered, is_shut, led_at, led_by, opening_look, opening_text, or_stays, owed_at_handing, pass_flows, pass_http, pass_reached, pass_socket, raw_look, shut_parked, socket_sight, socket_terms, stack_chain, tunnel_for, tunnel_found, turn_connected, turn_dial, turn_http, upgrades, used_proxy, way_to}
+use Rattle.px_socks.specs.Chain as socks
+use Rattle.px_socks.specs.FrontLaws.{AllToClient, pass_to_client, turn_to_client}
+use Rattle.px_socks.specs.Stages as fronts
+use Rattle.px_socks.specs.Stages.{Stage as Front}
+use Rattle.px_stack.specs.Chain.{answer_of, at_front, begins, begins_by, begun, closed_before, closes_all, connected_on, finished_flow, flows_at, follows, front_sight, goes_by, hands_by, hands_over, has_answered, is_shut, led_at, led_by, opening_look, opening_text, or_stays, owed_at_handing, pass_flows, pass_http, pass_reached, pass_socket, raw_look, shut_parked, socket_sight, socket_terms, stack_chain, tunnel_for, tunnel_found, turn_connected, turn_dial, turn_front, turn_http, upgrades, used_proxy, way_to}
 use Rattle.px_stack.specs.Decides.{Decision, decided, is_http, is_raw, still}
 use Rattle.px_stack.specs.Frames.{AreSaid, pass_says, turn_says}
 use Rattle.px_stack.specs.Modes.{mode_due}
 use Rattle.px_stack.specs.Sockets.{is_websocket}
-use Rattle.px_stack.specs.Stages.{Dialling, Ends as TunnelEnds, Goal, Link, Stage, Tunnel, Visitor, a_flow, a_tunnel, connecting, http, over, raw, reaching, socket, undecided}
+use Rattle.px_stack.specs.Stages.{Dialling, Ends as TunnelEnds, Goal, Link, Stage, Tunnel, Visitor, a_flow, a_tunnel, asking, connecting, http, over, raw, reaching, socket, undecided}
 use Rattle.px_stream.specs.Anywhere.{reached_owes}
 use Rattle.px_resend.specs.Dialled.{dials_in}
 use Rattle.px_app.specs.Servers.{CountsFrom}
@@ -46,7 +51,9 @@ abbrev DialledFor : ℕ → Goal → Type 0
 DialledFor n (a_tunnel tunnel) = tunnel.at.dials ≡ n
 DialledFor n (a_flow place from) = from.at.dials + 1 ≡ n
 
+-- For a client of SOCKS none was.
 abbrev DialledSo : ℕ → Stage → Type 0
+DialledSo n (asking front) = 0 ≡ n
 DialledSo n (http place standing) = DialledAt n standing
 DialledSo n (connecting tunnel) = tunnel.at.dials ≡ n
 DialledSo n (reaching goal link since) = DialledFor n goal
@@ -103,6 +110,17 @@ frames_none : (terms : Terms) (frames : Frames) → dials_in (found (relay.look 
 frames_none terms (relaying at) = refl
 frames_none terms (holding from message at) = refl
 frames_none terms ended = refl
+
+-- what a client of SOCKS is told dials nothing
+clients_none : (owed : List Command) → AllToClient owed → dials_in owed ≡ []
+clients_none [] are = refl
+clients_none (commands.Send Client text ∷ owed) (here, are) = clients_none owed are
+clients_none (commands.Send (Server server) text ∷ owed) (here, are) = absurd here
+clients_none (commands.Close Client ∷ owed) (here, are) = clients_none owed are
+clients_none (commands.Close (Server server) ∷ owed) (here, are) = absurd here
+clients_none (commands.Dial server address inside ∷ owed) (here, are) = absurd here
+clients_none (commands.Ask ask flow ∷ owed) (here, are) = absurd here
+clients_none (commands.Done flow ∷ owed) (here, are) = absurd here
 
 -- a flow that is connected through another proxy dials nothing more
 reached_none : (how : Sent) (place : Place) (flow : Flow) (server : ℕ) → dials_in (reached_owes how place flow server) ≡ []
@@ -161,6 +179,7 @@ module _ (conv : ℕ) (client : Visitor) where
 
   begun_dialled : (n : ℕ) (stage : Stage) (prefix : List (Timed Event)) → DialledSo n stage →
       (dials_in (begun conv client stage prefix).owed ≡ []) × DialledSo n (begun conv client stage prefix).stage
+  begun_dialled n (asking front) prefix is = (refl, is)
   begun_dialled n (http place standing) prefix is = (refl, is)
   begun_dialled n (connecting tunnel) prefix is = (refl, is)
   begun_dialled n (reaching goal link since) prefix is = (refl, is)
@@ -182,6 +201,45 @@ module _ (conv : ℕ) (client : Visitor) where
       let rest : List Command = (begun conv client to prefix).owed in
       (none_both on.owed (handed ++ rest) knows.0 (none_both handed rest waited further.0), further.1)
 
+  -- ---- a client of SOCKS
+
+  front_dialled : (n : ℕ) (front : Front) → 0 ≡ n → DialledSo n (at_front front)
+  front_dialled n fronts.greeting is = is
+  front_dialled n (fronts.requesting used) is = is
+  front_dialled n (fronts.dialling used address) is = is
+  front_dialled n (fronts.opened used address) is = is
+  front_dialled n fronts.over is = tt
+
+  front_finds : (n : ℕ) (front : Front) → 0 ≡ n → CountsFrom n (dials_in (found (socks.look front)))
+  front_finds n fronts.greeting is = tt
+  front_finds n (fronts.requesting used) is = tt
+  front_finds n (fronts.dialling used address) is = (is, tt)
+  front_finds n (fronts.opened used address) is = tt
+  front_finds n fronts.over is = tt
+
+  -- its dial was the first
+  asked_dialled : (n : ℕ) (used : ℕ) (address : Address) (closed : Bool) (answer : Reply) (prefix : List (Timed Event)) (moment : ℕ) → 0 ≡ n →
+      DialledSo (n + 1) (turn_front conv client (socks.turn (fronts.dialling used address) closed answer) prefix moment).stage
+  asked_dialled n used address closed (reply.Go given stream) prefix moment is = tt
+  asked_dialled n used address closed (reply.Respond response) prefix moment is = tt
+  asked_dialled n used address closed reply.Kill prefix moment is = tt
+  asked_dialled n used address closed reply.Discard prefix moment is = tt
+  asked_dialled n used address closed reply.Dialled prefix moment is = ap (λ (k : ℕ). k + 1) is
+  asked_dialled n used address closed (reply.Refused fault) prefix moment is = tt
+
+  front_asked : (used : ℕ) (address : Address) (ask : Command) → socks.look (fronts.dialling used address) ≡ Asks ask → length (dials_in (ask ∷ [])) ≡ 1
+  front_asked used address ask is = let P : Look Command → Type 0 = λ l. length (dials_in (found l)) ≡ 1 in subst P is refl
+
+  front_turned : (n : ℕ) (front : Front) (ask : Command) (closed : Bool) (answer : Reply) (prefix : List (Timed Event)) (moment : ℕ) → 0 ≡ n → socks.look front ≡ Asks ask →
+      DialledSo (n + length (dials_in (ask ∷ []))) (turn_front conv client (socks.turn front closed answer) prefix moment).stage
+  front_turned n fronts.greeting ask closed answer prefix moment is asks = absurd (let no : NotYet ≡ Asks ask = asks in cc)
+  front_turned n (fronts.requesting used) ask closed answer prefix moment is asks = absurd (let no : NotYet ≡ Asks ask = asks in cc)
+  front_turned n (fronts.dialling used address) ask closed answer prefix moment is asks =
+      let P : ℕ → Type 0 = λ k. DialledSo (n + k) (turn_front conv client (socks.turn (fronts.dialling used address) closed answer) prefix moment).stage in
+      subst P (sym (front_asked used address ask asks)) (asked_dialled n used address closed answer prefix moment is)
+  front_turned n (fronts.opened used address) ask closed answer prefix moment is asks = absurd (let no : Ends [] ≡ Asks ask = asks in cc)
+  front_turned n fronts.over ask closed answer prefix moment is asks = absurd (let no : Ends [] ≡ Asks ask = asks in cc)
+
   -- ---- another proxy, which has answered
 
   reached_dialled : (n : ℕ) (goal : Goal) (link : Link) (since : Since) (prefix : List (Timed Event)) (g : Granting) → DialledFor n goal →
@@ -198,6 +256,8 @@ module _ (conv : ℕ) (client : Visitor) where
 
   passes : (n : ℕ) (stage : Stage) (prefix : List (Timed Event)) → DialledSo n stage →
       (dials_in ((stack_chain conv client).pass stage prefix).owed ≡ []) × DialledSo n ((stack_chain conv client).pass stage prefix).stage
+  passes n (asking front) prefix is =
+      let on : Turn Front Command = socks.pass front (front_sight prefix) in (clients_none on.owed (pass_to_client front (front_sight prefix)), front_dialled n on.stage is)
   passes n (http place standing) prefix is = flows_pass n place standing prefix is
   passes n (connecting tunnel) prefix is = (refl, is)
   passes n (reaching goal link since) prefix is = reached_dialled n goal link since prefix (answer_of link prefix) is
@@ -209,6 +269,7 @@ module _ (conv : ℕ) (client : Visitor) where
   -- ---- what it owes and what it finds
 
   waits : (stage : Stage) (prefix : List (Timed Event)) → dials_in ((stack_chain conv client).so_far stage prefix) ≡ []
+  waits (asking front) prefix = refl
   waits (http place standing) prefix = (flows_counts place).so_far standing prefix
   waits (connecting tunnel) prefix = refl
   waits (reaching goal link since) prefix = refl
@@ -218,6 +279,7 @@ module _ (conv : ℕ) (client : Visitor) where
   waits over prefix = refl
 
   parts : (stage : Stage) (prefix : List (Timed Event)) → dials_in ((stack_chain conv client).behind stage prefix) ≡ []
+  parts (asking front) prefix = refl
   parts (http place standing) prefix = (flows_counts place).behind standing prefix
   parts (connecting tunnel) prefix = parked_none tunnel.at.parked
   parts (reaching goal link since) prefix = refl
@@ -241,6 +303,7 @@ module _ (conv : ℕ) (client : Visitor) where
       (none_both (finished_flow ends.flow) closes (flow_none ends.flow) (all_none (ByServer ends.link.server shut) closed))
 
   looks : (n : ℕ) (stage : Stage) (prefix : List (Timed Event)) → DialledSo n stage → CountsFrom n (dials_in (found ((stack_chain conv client).look stage prefix)))
+  looks n (asking front) prefix is = front_finds n front is
   looks n (http place standing) prefix is = (flows_counts place).look n standing prefix is
   looks n (connecting tunnel) prefix is = (is, tt)
   looks n (reaching goal link since) prefix is = tt
@@ -299,9 +362,9 @@ module _ (conv : ℕ) (client : Visitor) where
   led_is : (n : ℕ) (place : Place) (standing : Standing) (prefix : List (Timed Event)) → DialledAt n standing → IsLed n place standing prefix (led_at place standing)
   led_is n places.Regular standing prefix here = tt
   led_is n (places.Upstream proxy) standing prefix here = tt
-  led_is n (places.Fixed address side None) standing prefix here = tt
-  led_is n (places.Fixed address side (Some proxy)) standing prefix here =
-      led_is_by n (places.Fixed address side (Some proxy)) standing prefix standing.stage refl here
+  led_is n (places.Fixed address None) standing prefix here = tt
+  led_is n (places.Fixed address (Some proxy)) standing prefix here =
+      led_is_by n (places.Fixed address (Some proxy)) standing prefix standing.stage refl here
 
   -- the dial was one more
   proxy_dialled : (n : ℕ) (place : Place) (standing : Standing) (prefix : List (Timed Event)) (ask : Command) (from : Dialling) → IsLed n place standing prefix (Some from) →
@@ -325,6 +388,9 @@ module _ (conv : ℕ) (client : Visitor) where
 
   turns : (n : ℕ) (stage : Stage) (prefix : List (Timed Event)) (ask : Command) (answer : Timed Reply) → DialledSo n stage → (stack_chain conv client).look stage prefix ≡ Asks ask →
       (dials_in ((stack_chain conv client).turn stage prefix answer).owed ≡ []) × DialledSo (n + length (dials_in (ask ∷ []))) ((stack_chain conv client).turn stage prefix answer).stage
+  turns n (asking front) prefix ask answer is asks =
+      let on : Turn Front Command = socks.turn front (client_closed prefix) answer.value in
+      (clients_none on.owed (turn_to_client front (client_closed prefix) answer.value), front_turned n front ask (client_closed prefix) answer.value prefix answer.moment is asks)
   turns n (http place standing) prefix ask answer is asks =
       http_turns n (led_at place standing) place standing prefix ask answer answer.value (led_is n place standing prefix is) is asks
   turns n (connecting tunnel) prefix ask answer is asks =
@@ -344,7 +410,12 @@ module _ (conv : ℕ) (client : Visitor) where
   counts : CountsDials (stack_chain conv client) DialledSo
   counts = record { pass = passes; so_far = waits; behind = parts; look = looks; turn = turns }
 
+-- none was dialled where a conversation begins
+begun_none : (place : Option Place) → DialledSo 0 (begins_by place)
+begun_none None = refl
+begun_none (Some place) = refl
+
 -- the n-th dial that is due names server n
 pub mode_counts : (mode : Mode) (key : List ℕ) (conv : ℕ) (peer : Option Address) (moves : List Move) → CountsFrom 0 (dials_in (mode_due mode key conv peer moves))
 mode_counts mode key conv peer moves =
-    let client : Visitor = record { address = peer; key = key } in due_counts (stack_chain conv client) DialledSo (begins mode) (counts conv client) refl moves
+    let client : Visitor = record { address = peer; key = key } in due_counts (stack_chain conv client) DialledSo (begins mode) (counts conv client) (begun_none (place_of mode)) moves

@@ -2,7 +2,7 @@
 ghost use Rattle.std.specs.Prelude.{◌≡◌, ◌++◌, IfOk, OnOk};
 ghost use Rattle.px_message.specs.Url.{port_suffix};
 ghost use Rattle.px_options.specs.View.{mode_view};
-ghost use Rattle.px_app.specs.Lines.{mode_text, proxy_text, server_text, start_note, upstream_text};
+ghost use Rattle.px_app.specs.Lines.{mode_text, proxy_text, server_text, socks_text, start_note, upstream_text};
 
 use px_message::Address;
 use px_stack::Mode;
@@ -41,6 +41,7 @@ fn push_mode(mode: &Mode, text: &mut Vec<u8>) -> Result<(), NoMemory>
         }
         Mode::Reverse(server) => push_server(server.host.bytes(), server.port, text),
         Mode::Upstream(proxy) => push_upstream(proxy.host.bytes(), proxy.port, text),
+        Mode::Socks => push_socks(text),
     }
 }
 
@@ -63,6 +64,14 @@ fn push_upstream(host: &[u8], port: u16, text: &mut Vec<u8>) -> Result<(), NoMem
     text.extend_from_slice(host)?;
     push_port(port, text)?;
     text.push(b'\n')?;
+    Ok(())
+}
+
+#[tactic(auto, unfolding(crate::specs::Lines::socks_text))]
+fn push_socks(text: &mut Vec<u8>) -> Result<(), NoMemory>
+    ensures { OnOk result (text.new.items ≡ text.old.items ++ socks_text) }
+{
+    text.extend_from_slice(b", for clients of SOCKS5\n")?;
     Ok(())
 }
 

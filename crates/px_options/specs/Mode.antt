@@ -15,6 +15,8 @@ pub data ModeIs : Type 0 where
   reverse : Place → ModeIs
   -- all to this proxy
   upstream : Place → ModeIs
+  -- where each client says by SOCKS5 (RFC 1928)
+  socks : ModeIs
 
 -- the text begins with `reverse:`
 abbrev pub is_reverse : List ℕ → Bool
@@ -38,10 +40,11 @@ server_of (Some form) = server_in form
 abbrev pub server_at : List ℕ → Option Place
 server_at url = server_of (target_form (codes "GET") url)
 
--- the mode that a text is: `regular`, or `reverse:` or `upstream:` and the server's URL
+-- the mode that a text is: `regular`, `socks5`, or `reverse:` or `upstream:` and the server's URL
 abbrev pub mode_of : List ℕ → Option ModeIs
 mode_of text =
     if bytes_eq text (codes "regular") then Some regular
+    else if bytes_eq text (codes "socks5") then Some socks
     else if is_reverse text then option_map reverse (server_at (drop 8 text))
     else if is_upstream text then option_map upstream (server_at (drop 9 text))
     else None

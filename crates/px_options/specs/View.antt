@@ -6,7 +6,7 @@ use Rattle.px_filter.specs.View.{expression}
 use Rattle.px_message.specs.declared.address.Address.{Address}
 use Rattle.px_map.specs.View.{block_views, local_views, remote_views}
 use Rattle.px_rule.specs.View.{body_views, header_views}
-use Rattle.px_options.specs.Mode.{ModeIs, regular, reverse, upstream}
+use Rattle.px_options.specs.Mode.{ModeIs, regular, reverse, socks, upstream}
 use Rattle.px_options.specs.Options.{Settings}
 use Rattle.px_options.specs.Values.{Place}
 use Rattle.px_options.specs.declared.file_path.FilePath.{FilePath}
@@ -20,6 +20,7 @@ abbrev pub mode_view : Mode → ModeIs
 mode_view modes.Regular = regular
 mode_view (modes.Reverse a) = reverse (place a)
 mode_view (modes.Upstream a) = upstream (place a)
+mode_view modes.Socks = socks
 
 abbrev pub path_view : FilePath → List ℕ
 path_view p = string_bytes p.text

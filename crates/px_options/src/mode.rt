@@ -34,6 +34,9 @@ fn mode_of(alloc: Global, text: &[u8]) -> Result<Mode, OptionsError>
     if text == b"regular".as_slice() {
         return Ok(Mode::Regular);
     }
+    if text == b"socks5".as_slice() {
+        return Ok(Mode::Socks);
+    }
     if is_reverse(text) {
         return reverse_to(alloc, &text[8..]);
     }

@@ -77,6 +77,7 @@ fn show_mode(out: &mut Shown, mode: &Mode) {
         Mode::Regular => out.text("regular"),
         Mode::Reverse(server) => show_place(out, "reverse ", server),
         Mode::Upstream(proxy) => show_place(out, "upstream ", proxy),
+        Mode::Socks => out.text("socks5"),
     }
 }
 
