@@ -1,0 +1,9 @@
+pub mod ExchangeLemmas
+pub mod PlaceLemmas
+pub mod PassLemmas
+pub mod ReplyLemmas
+pub mod OffLemmas
+pub mod TurnLemmas
+pub mod WalkLemmas
+pub mod StandLemmas
+pub mod InTurnLaws
