@@ -75,9 +75,8 @@ fn new_conversation(alloc: Global, first_flow: u32, next_server: u32) -> Result<
     let address = address_at(alloc, "h", 80)?;
     let place = Place::Fixed {
         address,
-        side: None,
         inside: None,
     };
-    let made = HttpConv::new(alloc, 3, Some(client), place, first_flow, next_server)?;
+    let made = HttpConv::new(alloc, 3, Some(client), place, None, first_flow, next_server)?;
     Ok(made)
 }

@@ -80,10 +80,9 @@ fn begin(alloc: Global) -> Result<Gate<HttpConv>, NoMemory>
     };
     let place = Place::Fixed {
         address,
-        side: None,
         inside: None,
     };
-    let conversation = HttpConv::new(alloc, 0, None, place, 0, 0)?;
+    let conversation = HttpConv::new(alloc, 0, None, place, None, 0, 0)?;
     Ok(Gate::new(alloc, conversation))
 }
 
