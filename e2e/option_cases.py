@@ -189,7 +189,7 @@ def case_options_that_are_no_toml():
 
 
 def case_options_without_a_good_mode():
-    for mode in ("socks5", "Regular", "regular:http://127.0.0.1", "upstream:", "upstream:https://127.0.0.1"):
+    for mode in ("socks", "Regular", "regular:http://127.0.0.1", "upstream:", "upstream:https://127.0.0.1"):
         refused(f'mode = "{mode}"\n', 2, "bad options: mode")
 
 

@@ -41,11 +41,11 @@ def connect(port=PEER, behind=b""):
 class Peer:
     """A server that hands each connection to a function, in a thread."""
 
-    def __init__(self, serve, port=PEER, host="127.0.0.1"):
-        self.serve, self.port, self.host, self.went_wrong = serve, port, host, []
+    def __init__(self, serve, port=PEER, host="127.0.0.1", family=socket.AF_INET):
+        self.serve, self.port, self.host, self.family, self.went_wrong = serve, port, host, family, []
 
     def __enter__(self):
-        self.listener = socket.create_server((self.host, self.port))
+        self.listener = socket.create_server((self.host, self.port), family=self.family)
         threading.Thread(target=self.accept, daemon=True).start()
         return self
 

@@ -1,4 +1,6 @@
 """Cases of WebSockets: frames by hand, a library in both roles, a page in a browser, and whoever vanishes."""
+import base64
+import hashlib
 import os
 import shutil
 import socket
@@ -171,24 +173,32 @@ PAGE = (b"<!doctype html><p id=\"text\">waits</p><script>const socket = new WebS
         b"socket.onopen = () => socket.send('hel' + 'lo'); socket.onmessage = message => { document.getElementById('text').textContent = message.data; };</script>")
 
 
+def page_of(_):
+    """The page that opens a WebSocket, as an answer."""
+    return b"HTTP/1.1 200 OK\r\nContent-Type: text/html\r\nContent-Length: %d\r\n\r\n" % len(PAGE) + PAGE
+
+
+def accept_of(head):
+    """The answer that makes a browser's connection a WebSocket, without an extension."""
+    key = next(one for one in head.split(b"\r\n") if one.lower().startswith(b"sec-websocket-key:")).split(b":")[1].strip()
+    accept = base64.b64encode(hashlib.sha1(key + b"258EAFA5-E914-47DA-95CA-C5AB0DC85B11").digest())
+    assert b"permessage-deflate" not in head, head
+    return b"HTTP/1.1 101 Switching Protocols\r\nUpgrade: websocket\r\nConnection: Upgrade\r\nSec-WebSocket-Accept: " + accept + b"\r\n\r\n"
+
+
 def case_page_with_a_websocket_in_a_browser():
     """Its messages are changed where the line stands that keeps the browser from asking for an extension."""
     browser = next((path for path in map(shutil.which, BROWSERS) if path), None)
     if browser is None:
         raise Skipped("there is no browser (the package chromium of Debian)")
-    import base64
-    import hashlib
 
     def serve(connection):
         while True:
             head = read_head(connection)
             if b"GET /chat" not in head:
-                connection.sendall(b"HTTP/1.1 200 OK\r\nContent-Type: text/html\r\nContent-Length: %d\r\n\r\n" % len(PAGE) + PAGE)
+                connection.sendall(page_of(head))
                 continue
-            key = next(one for one in head.split(b"\r\n") if one.lower().startswith(b"sec-websocket-key:")).split(b":")[1].strip()
-            accept = base64.b64encode(hashlib.sha1(key + b"258EAFA5-E914-47DA-95CA-C5AB0DC85B11").digest())
-            assert b"permessage-deflate" not in head, head
-            connection.sendall(b"HTTP/1.1 101 Switching Protocols\r\nUpgrade: websocket\r\nConnection: Upgrade\r\nSec-WebSocket-Accept: " + accept + b"\r\n\r\n")
+            connection.sendall(accept_of(head))
             first, payload = read_frame(connection)
             connection.sendall(frame(TEXT, b"heard " + payload))
             connection.recv(1)

@@ -36,7 +36,7 @@ def case_options_that_are_refused():
         ("server_replay_use_headers = 'A'", "a list of texts is wanted"), ("events = 0", "a whole number from 1"), ("intercept = 1", "a filter"),
         ("save_stream_file = ''", "a path is wanted"), ("server_replay_extra = '405'", '"404"'), ("mode = 1", "a text is wanted"),
         ("mode = 'reverse:https://h'", "https is not supported"), ("mode = 'upstream:HTTPS://h:1'", "https is not supported"),
-        ("mode = 'reverse:http://h/x'", "takes no path"), ("mode = 'socks5'", "a mode is"), ("mode = 'reverse:http://'", "a mode is"),
+        ("mode = 'reverse:http://h/x'", "takes no path"), ("mode = 'socks'", "a mode is"), ("mode = 'reverse:http://'", "a mode is"),
         ("modify_body = ['/a']", "three parts between separators are wanted"), ("modify_body = ['']", "three parts between separators are wanted"),
         ("block_list = ['']", "a status is wanted"), ("block_list = ['/~q/abc']", "a status is wanted"), ("modify_body = ['/(/x']", "no regular expression"),
         ("modify_headers = ['/a b/x']", "no name of a field"), ("intercept = '~zz'", "no operator has these letters"), ("intercept = '~c x'", "one to three digits"),
