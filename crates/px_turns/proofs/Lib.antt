@@ -7,3 +7,5 @@ pub mod TurnLemmas
 pub mod WalkLemmas
 pub mod StandLemmas
 pub mod InTurnLaws
+pub mod TurnsExamples
+pub mod HeardLemmas

@@ -198,10 +198,6 @@ module _ (server : ℕ) (place : Place) (address : Address) where
   awaits_side (next at) text awaits = absurd awaits
   awaits_side over text awaits = absurd awaits
 
-  not_up_by : (side : ℕ) (how : Sent) (flow : Flow) (text : List ℕ) → AwaitsBy side how flow text → how ≡ all_sent
-  not_up_by side all_sent flow text awaits = refl
-  not_up_by side going_up flow text awaits = absurd awaits
-
   -- none goes up there
   pub awaits_none : (doing : Doing) (flow : Flow) (text : List ℕ) → AwaitsIn doing flow text → going_at doing ≡ None
   awaits_none (request_body given most) flow text awaits = absurd awaits

@@ -1,5 +1,5 @@
 -- What a server of a conversation is sent, against what it says: each request, to the one address of its side, behind the whole answer to the one before.
-use Rattle.std.specs.Prelude.{◌≡◌, ◌<◌, ℕ, ◌==◌, Bool, true, false, ◌||◌, nat_lt, if◌then◌else◌, List, [], ◌∷◌, ◌++◌, Option, Some}
+use Rattle.std.specs.Prelude.{⊤, ◌≡◌, ◌<◌, ℕ, ◌==◌, Bool, true, false, ◌||◌, nat_lt, if◌then◌else◌, List, [], ◌∷◌, ◌++◌, Option, Some}
 use Rattle.px_message.specs.declared.address.Address.{Address}
 use Rattle.px_message.specs.declared.request.Request.{Request}
 use Rattle.px_event.specs.declared.command.Command.{Command}
@@ -51,11 +51,25 @@ bytes_among server [] = []
 bytes_among server (e ∷ es) =
     if closes Client e.value || closes (Server server) e.value then [] else (piece_of (Server server) e.value ++ bytes_among server es)
 
--- all that the moves bring of the server, where it was connected before them, and else behind the answer that connects it
+-- the events in which it is heard: all, where it was connected before them, and else those behind the answer that connects it
+abbrev pub heard_in : (Stage → Stage) → Terms → At → ℕ → List Move → List (Stamped Event)
+heard_in onward terms at server moves =
+    if nat_lt server at.dials then events_in 1 moves
+    else behind_answer (http_chain onward terms) server (replies_in 1 moves) never (begin (idle at)) [] (events_in 1 moves)
+
 abbrev pub heard_of : (Stage → Stage) → Terms → At → ℕ → List Move → List ℕ
-heard_of onward terms at server moves =
-    bytes_among server (if nat_lt server at.dials then events_in 1 moves
-    else behind_answer (http_chain onward terms) server (replies_in 1 moves) never (begin (idle at)) [] (events_in 1 moves))
+heard_of onward terms at server moves = bytes_among server (heard_in onward terms at server moves)
+
+-- events that bring no byte of it, and close neither it nor the client
+abbrev pub BringNothing : ℕ → List (Stamped Event) → Type 0
+BringNothing server [] = ⊤
+BringNothing server (e ∷ es) = ((closes Client e.value || closes (Server server) e.value) ≡ false) × (piece_of (Server server) e.value ≡ []) × BringNothing server es
+
+-- In the moves it is heard behind these first events; and where they bring nothing of it, in all.
+pub record IsHeardBehind (server : ℕ) (heard all : List (Stamped Event)) : Type 0 where
+  pub early : List (Stamped Event)
+  pub all_are : all ≡ early ++ heard
+  pub whole : BringNothing server early → bytes_among server heard ≡ bytes_among server all
 
 -- ---- requests, and the answers to them
 
