@@ -5,7 +5,8 @@ import subprocess
 import sys
 
 from fuzz_parse import Cut, Wrong, read_request, unmasked, wrong_answers, wrong_lines, wrong_responses
-from fuzz_texts import frame, sent_on
+from fuzz_socks import FAILED, HELLO, LOCAL, NO_COMMAND, NO_METHOD, STANDS, WELCOME, named, request, wrong_socks
+from fuzz_texts import CONTROL, NOBODY, SERVER, frame, sent_on
 from tools import HERE, MITM, Skipped, same
 
 SEED, SECONDS = 1, 20
@@ -18,6 +19,20 @@ LINES = [b"0.0 GET http://h/ 200 2", b"1.0 GET http://h:81/ - - error: bad chunk
 SAID = b"list\nresume 1.0\nx\nshow 0.0\n"
 EDIT_ANSWERS = (b"ok", b"no such flow", b"not waiting", b"not there", b"bad value", b"bad number", b"unknown command")
 SHOWN = b'{"code":null,"error":null,"id":"0.0","marked":false,"messages":0,"method":"GET","url":"http://h/"}\n'
+
+
+ASKS = HELLO + request(LOCAL[0][0], SERVER)
+# What a client of SOCKS says and is told, and what it is not told.
+TOLD = (
+    (b"", b""), (HELLO[:2], b""), (b"\4", b""), (b"\5\1\2", NO_METHOD), (HELLO, WELCOME), (HELLO + b"\5\2", WELCOME + NO_COMMAND), (HELLO + request(named(b"a b"), SERVER), WELCOME + FAILED),
+    (HELLO + request(LOCAL[0][0], NOBODY), WELCOME + FAILED), (ASKS, WELCOME + STANDS), (ASKS + b"GE", WELCOME + STANDS), (ASKS + b"GET /a HTTP/1.1\r\n\r\n", WELCOME + STANDS + ANSWER),
+    (ASKS + b"RAW 00000002\nok", WELCOME + STANDS + b"ok"),
+)
+NOT_TOLD = (
+    (HELLO[:2], WELCOME), (b"\4", NO_METHOD), (b"\5\1\2", WELCOME), (HELLO, b""), (HELLO + b"\5", WELCOME + FAILED), (HELLO + b"\5\2", WELCOME + FAILED), (HELLO + request(named(b"a b"), SERVER), WELCOME + STANDS),
+    (HELLO + request(LOCAL[0][0], CONTROL[1]), WELCOME + STANDS), (HELLO + request(LOCAL[0][0], NOBODY), WELCOME + FAILED + b"x"), (ASKS, WELCOME), (ASKS, WELCOME + FAILED), (ASKS, WELCOME + STANDS[:-1] + b"\1"),
+    (ASKS + b"GE", WELCOME + STANDS + b"x"), (ASKS + b"GET /a HTTP/1.1\r\n\r\n", WELCOME + STANDS + ANSWER[:-1]), (ASKS + b"RAW 00000002\nok", WELCOME + STANDS + b"no"),
+)
 
 
 def is_wrong_request(text):
@@ -46,6 +61,8 @@ def case_fuzzer_tells_what_is_wrong():
     for wrong, text in ((False, ANSWER * 2), (True, ANSWER[:-1]), (True, ANSWER + b"x"), (True, ANSWER.replace(b"\r\nC", b"\nC")), (False, ANSWER + OWN), (True, OWN + ANSWER),
                         (True, OWN.replace(b"bad t", b"bed t"))):
         same((text, wrong_responses(text, False, False) is not None), (text, wrong))
+    for wrong, (said, got) in [(False, told) for told in TOLD] + [(True, told) for told in NOT_TOLD]:
+        same((said, got, wrong_socks(said, got, False, False) is not None), (said, got, wrong))
     for wrong, lines in ((False, LINES), (True, LINES + LINES[:1]), (True, LINES[2:]), (True, [b"0.0 GET http://h/ 200"]), (True, [b"0.0 GET http://h/ - -"])):
         same((lines, wrong_lines(lines, 0) is not None), (lines, wrong))
     for wrong, got in ((False, b"0.0 going\nend\nok\nunknown command\n" + SHOWN), (True, b"1.0 going\n0.0 going\nend\nok\nunknown command\n" + SHOWN), (True, b"end\nok\n" + SHOWN),

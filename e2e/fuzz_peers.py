@@ -1,4 +1,5 @@
 """Who talks to the program in a round: fuzzed clients and servers, operators, and the honest client. Each is a thread and keeps what it sent and got."""
+import os
 import re
 import socket
 import struct
@@ -8,12 +9,12 @@ import time
 import zlib
 
 from fuzz_parse import Cut, Wrong, read_request, unmasked, wrong_answers
+from fuzz_socks import HELLO, SPOKEN, STANDS, WELCOME, has_ipv6, places, request
 from fuzz_talks import ESTABLISHED, edit_of, operator_text, random_of, server_steps, websocket_steps
-from fuzz_texts import AGREES, ASKS, PATH, SERVER, SPEAKER, SWITCHES, exchange, frame, is_streamed, lines, pieces, target_of, websocket
+from fuzz_texts import AGREES, ASKS, BY_PATH, CONTROL, PATH, PROXY, SERVER, SPEAKER, SWITCHES, exchange, frame, is_streamed, lines, pieces, target_of, websocket
 
-PROXY, CONTROL = ("127.0.0.1", 8280), ("127.0.0.1", 8281)
-# Seconds: those behind which a mutated side gives up; those in which an honest client is served; those behind which nothing comes any more.
-IDLE, LATEST, PATIENCE = 1.2, 2, 40
+# Seconds: those behind which a mutated side gives up; those in which an honest client is served; those behind which nothing comes any more, on a machine that has time for it.
+IDLE, LATEST, PATIENCE = 1.2, 2, int(os.environ.get("PATIENCE", "40"))
 MOST_GOT = 3_000_000
 
 
@@ -57,7 +58,7 @@ class Peer(threading.Thread):
 
     def __init__(self, name):
         super().__init__(daemon=True, name=name)
-        self.got, self.ended, self.is_eof, self.went_wrong = bytearray(), None, False, None
+        self.got, self.ended, self.is_eof, self.went_wrong, self.early = bytearray(), None, False, None, b""
 
     def read(self, connection, seconds, until=None):
         """Reads until so many bytes are there, the peer closes, or nothing comes for so long."""
@@ -83,6 +84,9 @@ class Peer(threading.Thread):
                 time.sleep(what / 1000)
             elif verb == "await":
                 self.read(connection, seconds, what)
+            elif verb == "quiet":
+                self.read(connection, 0.03, what + 1)
+                self.early += self.got[what:]
             elif verb == "body":
                 self.whole_request(connection, seconds)
             else:
@@ -136,7 +140,7 @@ class Client(Peer):
 
 class ServedConnection(Peer):
     def __init__(self, servers, connection, port, count):
-        super().__init__(f"server {port} {count}")
+        super().__init__(f"server {port} {count}{' of IPv6' if connection.family == socket.AF_INET6 else ''}")
         self.servers, self.connection, self.port, self.count = servers, connection, port, count
         self.at, self.is_raw_from, self.is_over, self.frames = 0, None, False, None
         self.is_proxy, self.spoke_first = servers.mode == "upstream", False
@@ -156,7 +160,7 @@ class ServedConnection(Peer):
         connection.setsockopt(socket.IPPROTO_TCP, socket.TCP_NODELAY, 1)
         if self.port == SPEAKER and self.count % 3 == 0:
             self.spoke_first, self.is_raw_from = True, 0
-            connection.sendall(b"220 hello\r\n")
+            connection.sendall(SPOKEN)
         while not self.is_eof and self.read(connection, PATIENCE, self.at + 1):
             if not self.answer():
                 return
@@ -308,8 +312,9 @@ class Servers:
         self.seed, self.mode, self.connections, self.asked, self.listeners, self.doors = seed, mode, [], {}, [], []
 
     def start(self):
-        for port in (SERVER, SPEAKER):
-            listener = socket.create_server(("127.0.0.1", port), backlog=512)
+        families = [("127.0.0.1", socket.AF_INET)] + ([("::1", socket.AF_INET6)] if self.mode == "socks5" and has_ipv6() else [])
+        for port, (host, family) in ((port, one) for port in (SERVER, SPEAKER) for one in families):
+            listener = socket.create_server((host, port), family=family, backlog=512)
             self.listeners.append(listener)
             self.doors.append(threading.Thread(target=self.accept, args=(listener, port), daemon=True))
             self.doors[-1].start()
@@ -362,10 +367,10 @@ class Honest(threading.Thread):
             self.stops.wait(0.03)
         self.machine.stops.set()
 
-    def has_ended(self):
+    def has_ended(self, seconds=1):
         """Whether the run is at its end (its sockets are closed a moment before)."""
         try:
-            self.run_of.process.wait(1)
+            self.run_of.process.wait(seconds)
         except subprocess.TimeoutExpired:
             return False
         return True
@@ -384,33 +389,50 @@ class Honest(threading.Thread):
             got += piece
         return None if got == wanted else f"honest client: got {got[:400]!r}, wanted {wanted[:400]!r}"
 
-    def get(self, number):
+    def talk(self, sent, wanted):
+        """Sends it, in mode `socks5` behind what a client says there first, in one piece or when that was answered; what is wrong with what comes to the close."""
+        front, told = self.entry()
         with connected(PROXY, PATIENCE) as connection:
-            connection.sendall(self.ask(b"GET", b"get" + number, b"Connection: close"))
-            return self.compare(connection, honest_answer(b"get" + number, b""))
+            if front and self.count % 2:
+                for text, size in ((front[:len(HELLO)], len(WELCOME)), (front[len(HELLO):], len(STANDS))):
+                    connection.sendall(text)
+                    got = b""
+                    while len(got) < size and (piece := connection.recv(size - len(got))):
+                        got += piece
+                    if got != told[:size]:
+                        return f"honest client: got {got!r}, wanted {told[:size]!r}"
+                    told = told[size:]
+                front = b""
+            connection.sendall(front + sent)
+            return self.compare(connection, told + wanted)
+
+    def entry(self):
+        """What it says first, and what it is told."""
+        if self.run_of.mode != "socks5":
+            return b"", b""
+        ways = places(self.run_of.looks_up)
+        return HELLO + request(ways[self.count // 2 % len(ways)][0], SERVER), WELCOME + STANDS
+
+    def get(self, number):
+        return self.talk(self.ask(b"GET", b"get" + number, b"Connection: close"), honest_answer(b"get" + number, b""))
 
     def post(self, number):
-        with connected(PROXY, PATIENCE) as connection:
-            connection.sendall(self.ask(b"POST", b"post" + number, b"Connection: close", b"Transfer-Encoding: chunked") + b"2;x\r\nab\r\n1\r\nc\r\n0\r\n\r\n")
-            chunks = b"2\r\nab\r\n1\r\nc" if is_streamed(b"abc", self.run_of.most) else b"3\r\nabc"
-            return self.compare(connection, honest_answer(b"post" + number, chunks + b"\r\n0\r\n\r\n"))
+        chunks = b"2\r\nab\r\n1\r\nc" if is_streamed(b"abc", self.run_of.most) else b"3\r\nabc"
+        return self.talk(self.ask(b"POST", b"post" + number, b"Connection: close", b"Transfer-Encoding: chunked") + b"2;x\r\nab\r\n1\r\nc\r\n0\r\n\r\n",
+                         honest_answer(b"post" + number, chunks + b"\r\n0\r\n\r\n"))
 
     def two(self, number):
-        with connected(PROXY, PATIENCE) as connection:
-            connection.sendall(self.ask(b"GET", b"one" + number) + self.ask(b"GET", b"two" + number, b"Connection: close"))
-            return self.compare(connection, honest_answer(b"one" + number, b"") + honest_answer(b"two" + number, b""))
+        return self.talk(self.ask(b"GET", b"one" + number) + self.ask(b"GET", b"two" + number, b"Connection: close"),
+                         honest_answer(b"one" + number, b"") + honest_answer(b"two" + number, b""))
 
     def upgraded(self, number):
         name = b"ws" + number
-        with connected(PROXY, PATIENCE) as connection:
-            connection.sendall(self.ask(b"GET", name, *ASKS) + frame(1, b"half ", b"\1\2\3\4", False) + frame(0, name, b"\5\6\7\0"))
-            return self.compare(connection, AGREES + frame(1, b"heard " + name) + frame(8, b"\x03\xe8"))
+        return self.talk(self.ask(b"GET", name, *ASKS) + frame(1, b"half ", b"\1\2\3\4", False) + frame(0, name, b"\5\6\7\0"), AGREES + frame(1, b"heard " + name) + frame(8, b"\x03\xe8"))
 
     def raw(self, number):
         body = b"raw " * 20 + number
-        with connected(PROXY, PATIENCE) as connection:
-            connection.sendall(lines(b"CONNECT 127.0.0.1:%d HTTP/1.1" % SERVER, b"Host: x") + b"RAW %08x\n" % len(body) + body)
-            return self.compare(connection, ESTABLISHED + body)
+        asks, told = (b"", b"") if self.run_of.mode in BY_PATH else (lines(b"CONNECT 127.0.0.1:%d HTTP/1.1" % SERVER, b"Host: x"), ESTABLISHED)
+        return self.talk(asks + b"RAW %08x\n" % len(body) + body, told + body)
 
 
 class Steady(threading.Thread):

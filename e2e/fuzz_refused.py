@@ -7,12 +7,14 @@ import shutil
 import subprocess
 import tempfile
 import time
+from itertools import cycle
 
 from fuzz_files import recorded
 from fuzz_parse import LINE, wrong_lines
-from fuzz_peers import CONTROL, PROXY, Servers, connected, honest_answer
+from fuzz_peers import PATIENCE, Servers, connected, honest_answer
+from fuzz_socks import FAILED, HELLO, STANDS, WELCOME, named, places, request
 from fuzz_talks import random_of
-from fuzz_texts import AGREES, ASKS, SERVER, frame, lines
+from fuzz_texts import AGREES, ASKS, CONTROL, PROXY, SERVER, frame, lines
 from tools import MITM, listens
 
 SOURCE = r"""
@@ -44,7 +46,8 @@ __attribute__((destructor)) static void finish(void) {
 void *malloc(size_t size) { return refuses() ? NULL : __libc_malloc(size); }
 void *realloc(void *old, size_t size) { return refuses() ? NULL : __libc_realloc(old, size); }
 """
-OPTIONS = f"""mode = "reverse:http://127.0.0.1:{SERVER}"
+MODES = {"reverse": f"reverse:http://127.0.0.1:{SERVER}", "socks5": "socks5"}
+OPTIONS = f"""
 listen = "127.0.0.1:{PROXY[1]}"
 control = "127.0.0.1:{CONTROL[1]}"
 intercept = "~u /held & ~q"
@@ -72,6 +75,14 @@ TALKS = (
     (ask(b"GET", b"/local/a.txt", CLOSES), HEAD + LOCAL),
     (ask(b"GET", b"/honest/held", CLOSES), honest_answer(b"held", b"")),
 )
+REFUSED = (HELLO + request(named(b"a b"), SERVER), WELCOME + FAILED)
+
+
+def talks(mode):
+    """What each client says, and what it is told; in mode `socks5` behind what it says there first."""
+    if mode != "socks5":
+        return TALKS
+    return [(HELLO + request(address, SERVER) + sent, WELCOME + STANDS + wanted) for (address, _), (sent, wanted) in zip(cycle(places(False)), TALKS)] + [REFUSED]
 
 
 class Library:
@@ -88,11 +99,11 @@ def can_refuse():
     return shutil.which("cc") is not None
 
 
-def play(library, seed, number=None, until=None):
+def play(library, seed, mode, number=None, until=None):
     """One run, in which the requests for memory of these numbers are refused: how many there were, and what is wrong."""
     with tempfile.TemporaryDirectory() as folder, open(os.path.join(folder, "printed"), "wb+") as out, open(os.path.join(folder, "noted"), "wb+") as err:
         os.makedirs(os.path.join(folder, "files"))
-        for name, text in (("options", OPTIONS.encode()), ("files/a.txt", LOCAL), ("answers", recorded(seed, "answers")), ("asked", recorded(seed, "asked"))):
+        for name, text in (("options", f'mode = "{MODES[mode]}"{OPTIONS}'.encode()), ("files/a.txt", LOCAL), ("answers", recorded(seed, "answers")), ("asked", recorded(seed, "asked"))):
             with open(os.path.join(folder, name), "wb") as file:
                 file.write(text)
         words = {"LD_PRELOAD": library.path, "COUNTED": os.path.join(folder, "counted"), "RES_OPTIONS": "timeout:1 attempts:1"}
@@ -100,24 +111,24 @@ def play(library, seed, number=None, until=None):
             words |= {"REFUSE": str(number)} | ({"REFUSE_UNTIL": str(until)} if until else {})
         process = subprocess.Popen([MITM, "serve", "options"], cwd=folder, stdin=subprocess.DEVNULL, stdout=out, stderr=err, env={**os.environ, **words})
         try:
-            got = talk(process)
-            return judge(process, folder, got, number, out, err)
+            got = talk(process, mode)
+            return judge(process, mode, folder, got, number, out, err)
         finally:
             process.kill()
             process.wait()
 
 
-def talk(process):
+def talk(process, mode):
     """What the clients and the operator got."""
-    end = time.time() + 20
+    end = time.time() + PATIENCE
     while process.poll() is None and not listens(CONTROL[1]) and time.time() < end:
         time.sleep(0.005)
     if process.poll() is not None:
         return []
     got = []
-    for sent, wanted in TALKS:
+    for sent, wanted in talks(mode):
         try:
-            with connected(PROXY, 20) as client:
+            with connected(PROXY, PATIENCE) as client:
                 client.sendall(sent)
                 if wanted.endswith(b"held\n"):
                     got.append(operate(process))
@@ -127,7 +138,7 @@ def talk(process):
         if process.poll() is not None:
             return got
     try:
-        with connected(CONTROL, 20) as operator:
+        with connected(CONTROL, PATIENCE) as operator:
             operator.sendall(b"quit\n")
             got.append(read(operator))
     except OSError:
@@ -148,7 +159,7 @@ def read(connection):
 def operate(process):
     """An operator who lists until a flow waits, shows it, marks it and lets it go on."""
     said = b""
-    with connected(CONTROL, 20) as operator:
+    with connected(CONTROL, PATIENCE) as operator:
         for _ in range(400):
             operator.sendall(b"list\n")
             said = b""
@@ -166,10 +177,10 @@ def operate(process):
         return read(operator)
 
 
-def judge(process, folder, got, number, out, err):
+def judge(process, mode, folder, got, number, out, err):
     wrong = []
     try:
-        status = process.wait(20)
+        status = process.wait(PATIENCE)
     except subprocess.TimeoutExpired:
         return None, ["it does not end"]
     count = int(content(os.path.join(folder, "counted")) or 0)
@@ -182,10 +193,10 @@ def judge(process, folder, got, number, out, err):
         wrong.append(f"printed {printed[-2:]!r:.300}: {wrong_lines(printed, status)}")
     if status == 8 and not notes:
         wrong.append("status 8, and nothing on standard error")
-    wanted = [text for _, text in TALKS]
+    wanted = [text for _, text in talks(mode)]
     clients = [one for one in got if not one.startswith(b"{") and not one.startswith(b"no such") and one != b"bye\n" and not one.endswith(b"end\n")]
     for one, whole in zip(clients, wanted):
-        if not (whole.startswith(one) if status == 8 else one == whole or number is not None and b"502 Bad Gateway" in one):
+        if not (whole.startswith(one) if status == 8 else one == whole or number is not None and (b"502 Bad Gateway" in one or one == WELCOME + FAILED)):
             wrong.append(f"a client got {one[:300]!r}, and not {whole[:300]!r}, with status {status}")
     saved = os.path.join(folder, "saved")
     if os.path.exists(saved):
@@ -209,19 +220,20 @@ def refused_round(seed, tries=12, every=False):
     if not can_refuse():
         return [], {"skipped": "cc is missing"}
     rng, findings = random_of(seed, "refused"), []
-    servers = Servers(seed, "reverse")
+    mode = random_of(seed, "refused", "mode").choice(list(MODES))
+    servers = Servers(seed, mode)
     servers.start()
     try:
         with tempfile.TemporaryDirectory() as folder:
             library = Library(folder)
-            count, wrong = play(library, seed)
+            count, wrong = play(library, seed, mode)
             findings += [f"with none refused: {what}" for what in wrong]
             most = (count or 1) + 20
             numbers = range(1, most) if every else sorted(rng.sample(range(1, most), min(tries, most - 1)))
             for number in numbers:
                 until = None if every or rng.random() < 0.7 else number + rng.choice((2, 10, 1_000_000))
-                _, wrong = play(library, seed, number, until)
+                _, wrong = play(library, seed, mode, number, until)
                 findings += [f"request {number} for memory refused (until {until}): {what}" for what in wrong]
     finally:
         servers.stop()
-    return findings, {"requests for memory": count, "refused": len(numbers)}
+    return findings, {"mode": mode, "requests for memory": count, "refused": len(numbers)}

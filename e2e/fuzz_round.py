@@ -8,12 +8,13 @@ import time
 
 from fuzz_files import recorded
 from fuzz_parse import LINE, Wrong, places_printed, requests_of, wrong_lines, wrong_responses
-from fuzz_peers import CONTROL, PATIENCE, PROXY, Client, Honest, Operator, Servers, Steady, connected
-from fuzz_talks import exact_talk, mutated_talk, random_of
-from fuzz_texts import CLOSE, SERVER
+from fuzz_peers import PATIENCE, Client, Honest, Operator, Servers, Steady, connected
+from fuzz_socks import wrong_socks
+from fuzz_talks import exact_talk, mutated_talk, random_of, refused_talk
+from fuzz_texts import CLOSE, CONTROL, PROXY, SERVER
 from tools import MITM, listens
 
-MODES = ("regular", "reverse", "upstream")
+MODES = ("regular", "reverse", "upstream", "socks5")
 ENDS = ("quit", "quit", "quit", "quit", "quit", "events", "early", "memory", "descriptors")
 STATUSES = {"quit": (0,), "early": (0,), "events": (6,), "memory": (0, 8), "descriptors": (0,)}
 RULES = (
@@ -26,6 +27,8 @@ RULES = (
     "anticache = true\nanticomp = true",
 )
 HELD = ("~u /f/m & ~q", "~u /f/m & ~s", "~u /f/m", "~u /f/m & ~websocket", "~u /f/m & ~m POST")
+# So many kilobytes more than at the start may stay.
+GROWTH = 20_000
 NOTES = re.compile(rb"panicked|RUST_BACKTRACE|overflow|assert")
 
 
@@ -35,10 +38,12 @@ class Round:
         self.mode = mode
         self.end_by = end or random_of(seed, "end").choice(ENDS)
         self.findings, self.facts = [], {}
+        # (where memory is short a name may have no address)
+        self.looks_up = self.end_by != "memory"
 
     def options(self, folder):
         rng, lines = self.rng, [f'listen = "127.0.0.1:{PROXY[1]}"', f'control = "127.0.0.1:{CONTROL[1]}"']
-        lines.append({"regular": 'mode = "regular"'}.get(self.mode, f'mode = "{self.mode}:http://127.0.0.1:{SERVER}"'))
+        lines.append(f'mode = "{self.mode}"' if self.mode in ("regular", "socks5") else f'mode = "{self.mode}:http://127.0.0.1:{SERVER}"')
         lines += {rule.split(" ")[0]: rule for rule in rng.sample(RULES, rng.choice((0, 0, 1, 2, 4)))}.values()
         self.adds = b"Accept-Encoding: identity\r\n" if any("anticomp" in line for line in lines) else b""
         if rng.random() < 0.4:
@@ -108,7 +113,9 @@ class Round:
     def talk(self):
         rng, few = self.rng, self.end_by == "descriptors"
         span = 1.0
-        exact = [] if few else [Client(number, exact_talk(self.seed, number, self.mode, self.most), rng.random() * span) for number in range(rng.choice((4, 8, 12)))]
+        exact = [] if few else [Client(number, exact_talk(self.seed, number, self.mode, self.most, self.looks_up), rng.random() * span) for number in range(rng.choice((4, 8, 12)))]
+        if self.mode == "socks5" and not few:
+            exact += [Client(500 + number, refused_talk(self.seed, number), number % 4 * span / 4) for number in range(12)]
         mutated = [Client(1000 + number, mutated_talk(self.seed, number, self.mode), rng.random() * span) for number in range(rng.choice((15, 30, 60)))]
         self.clients = exact + mutated
         self.operators = [Operator(self.seed, number, rng.random() * span) for number in range(rng.choice((0, 3, 8)))]
@@ -146,10 +153,10 @@ class Round:
         self.findings.append(what)
 
     def measure(self):
-        """Descriptors, resident kilobytes and processor ticks of the program; None once it has ended."""
+        """Descriptors, resident kilobytes (but those of its file) and processor ticks of the program; None once it has ended."""
         try:
             with open(f"/proc/{self.process.pid}/status") as file:
-                resident = int(re.search(r"VmRSS:\s+(\d+)", file.read())[1])
+                resident = int(re.search(r"RssAnon:\s+(\d+)", file.read())[1])
             with open(f"/proc/{self.process.pid}/stat") as file:
                 ticks = sum(map(int, file.read().rsplit(")", 1)[1].split()[11:13]))
             return len(os.listdir(f"/proc/{self.process.pid}/fd")), resident, ticks
@@ -162,7 +169,7 @@ class Round:
             if not self.steady.drain(PATIENCE):
                 self.find(f"flows that do not end: {self.steady.say(b'list')!r:.500}")
         except OSError as error:
-            if self.process.poll() is None or self.end_by != "memory":
+            if self.end_by != "memory" or not self.honest.has_ended(10):
                 self.find(f"the operator who drains: {error!r}")
         count = len(self.honest.wrong)
         if self.end_by == "descriptors":
@@ -196,14 +203,16 @@ class Round:
         self.facts["kilobytes"] = (self.base[1], later[1])
         if later[2] - now[2] > 15:
             self.find(f"it is busy while nobody talks: {later[2] - now[2]} ticks in 0.3 s")
-        if later[1] > self.base[1] + 20_000:
+        if later[1] > self.base[1] + GROWTH:
             self.find(f"{later[1]} kB are resident, {self.base[1]} were")
 
     def sockets(self):
         """What the sockets of the program are connected to."""
         inodes = {os.readlink(f"/proc/{self.process.pid}/fd/{name}") for name in os.listdir(f"/proc/{self.process.pid}/fd")}
-        with open("/proc/net/tcp") as table:
-            rows = [line.split() for line in table]
+        rows = []
+        for name in ("tcp", "tcp6"):
+            with open(f"/proc/net/{name}") as table:
+                rows += [line.split() for line in table]
         return [f"{int(row[1][-4:], 16)} to {int(row[2][-4:], 16)}, state {row[3]}" for row in rows if f"socket:[{row[9]}]" in inodes]
 
     def quit(self):
@@ -291,8 +300,12 @@ class Round:
             if talk.exact:
                 self.check_exact(client, talk, got, printed)
                 continue
-            may_be_cut = self.was_cut or self.most is not None or client.ended != "read" or not client.is_eof
-            why = wrong_responses(got, talk.heads, may_be_cut)
+            may_be_cut, streams = self.was_cut or client.ended != "read" or not client.is_eof, self.most is not None
+            if self.mode == "socks5":
+                may_fail = self.end_by in ("descriptors", "memory")
+                why = wrong_socks(talk.said(), got, talk.heads, may_be_cut, streams, not may_be_cut and not may_fail, may_fail)
+            else:
+                why = wrong_responses(got, talk.heads, may_be_cut or streams)
             if why:
                 self.find(f"{client.name} got {got[:600]!r}: {why}")
 
@@ -303,6 +316,10 @@ class Round:
             return
         if got != talk.answered:
             self.find(f"{client.name}, exact, ended {client.ended} {client.went_wrong!r}: {difference(got, talk.answered)}")
+        if client.early:
+            self.find(f"{client.name}, exact: it was told {bytes(client.early)!r:.300} too early")
+        if not client.is_eof and client.went_wrong is None:
+            self.find(f"{client.name}, exact: it is not closed")
         for line in talk.printed:
             count = sum(found.split(b" ", 1)[1] == line for found in printed if found.count(b" "))
             if count != 1:
@@ -335,7 +352,7 @@ class Round:
     def check_honest(self):
         wrong = self.honest.wrong
         if self.end_by == "descriptors":
-            wrong = [why for why in wrong if not re.search(r"502 Bad Gateway|timed out|took|got b''|reset", why)]
+            wrong = [why for why in wrong if not re.search(r"502 Bad Gateway|timed out|took|got b''|reset|got b'(\\x05\\x00)?\\x05\\x01", why)]
         if wrong:
             self.find(f"{len(wrong)} of {self.honest.count} asks of the honest client: {wrong[:3]}")
         self.facts.update(honest=self.honest.count, slowest=round(self.honest.slowest, 2))

@@ -3,8 +3,9 @@ import base64
 import random
 from dataclasses import dataclass, field
 
+from fuzz_socks import STANDS, WELCOME, first_texts, greeting, places, refused, request
 from fuzz_texts import (
-    ASKS, CLOSE, MOST, SERVER, SPEAKER, SWITCHES, Exchange, chunks_of, exchange, frame, lines, message, mutate, pieces, seeded, some_bytes, target_of, websocket,
+    ASKS, BY_PATH, CLOSE, MOST, NOBODY, SERVER, SPEAKER, SWITCHES, Exchange, chunks_of, exchange, frame, lines, message, mutate, pieces, seeded, some_bytes, target_of, websocket,
 )
 
 ESTABLISHED = b"HTTP/1.1 200 Connection established\r\n\r\n"
@@ -12,12 +13,13 @@ ESTABLISHED = b"HTTP/1.1 200 Connection established\r\n\r\n"
 
 @dataclass
 class Talk:
-    """Steps: `send` bytes, `pause` milliseconds, `await` so many bytes in all; and at the last `read` to the end, `close`, `reset` or `half` (closed), which
-    reads to the end behind it. An exact talk has what its client gets, what is printed of it, and what its servers get of each path."""
+    """Steps: `send` bytes, `pause` milliseconds, `await` so many bytes in all, `quiet`, for a moment, where no more than so many may come; and at the last `read` to the end, `close`, `reset` or `half`
+    (closed), which reads to the end behind it. An exact talk has what its client gets, what is printed of it by the host that it asks for, and what its servers get of each path."""
 
     steps: list = field(default_factory=list)
     exact: bool = False
     heads: bool = False
+    host: bytes = b"127.0.0.1"
     answered: bytes = b""
     printed: list = field(default_factory=list)
     asked: dict = field(default_factory=dict)
@@ -28,22 +30,29 @@ class Talk:
             if pause:
                 self.steps.append(("pause", pause))
 
+    def said(self):
+        """All that its client sends."""
+        return b"".join(what for verb, what in self.steps if verb == "send")
 
-def shown(method, path, code, size):
-    return b"%s http://127.0.0.1:%d%s %d %s" % (method, SERVER, path, code, size)
+    def shown(self, method, path, code, size):
+        self.printed.append(b"%s http://%s:%d%s %d %s" % (method, self.host, SERVER, path, code, size))
 
 
-def exact_talk(seed, number, mode, most=None):
+def exact_talk(seed, number, mode, most=None, looks_up=True):
     """One of which all is known, in a run that streams what is above this size."""
     rng = seeded("talk", seed, "x", number)
     talk = Talk(exact=True, heads=True)
     kinds = ["requests", "requests", "requests", "websocket", "upgrade"]
-    if mode != "reverse":
+    if mode == "socks5":
+        kinds += ["raw"]
+    elif mode != "reverse":
         kinds += ["requests inside", "websocket inside", "raw"]
     kind = rng.choice(kinds)
     inside = kind.endswith("inside")
     front = b""
-    if inside or kind == "raw":
+    if mode == "socks5":
+        front = exact_entry(rng, talk, looks_up)
+    elif inside or kind == "raw":
         front = connect(SERVER)
         talk.answered += ESTABLISHED
         if rng.random() < 0.5:
@@ -51,6 +60,47 @@ def exact_talk(seed, number, mode, most=None):
             talk.steps.append(("await", len(talk.answered)))
             front = b""
     {"re": exact_requests, "we": exact_websocket, "ra": exact_raw, "up": exact_upgrade}[kind[:2]](rng, talk, seed, number, mode, front, inside, most)
+    talk.steps.append(("read", 0))
+    return talk
+
+
+def exact_entry(rng, talk, looks_up):
+    """What a client of SOCKS says first, in one piece or in more, of which each may wait for an answer; what of it goes with what follows is not sent yet."""
+    address, talk.host = rng.choice(places(looks_up))
+    front, asks = greeting(rng), request(address, SERVER)
+    talk.answered += WELCOME + STANDS
+    way = rng.randrange(4)
+    if way == 0:
+        return front + asks
+    if way == 1:
+        talk.send(rng, front + asks)
+    else:
+        in_two(rng, talk, front, 0, len(WELCOME))
+        if way == 2:
+            return asks
+        in_two(rng, talk, asks, len(WELCOME), len(WELCOME + STANDS))
+    if rng.random() < 0.5:
+        talk.steps.append(("await", len(talk.answered)))
+    return b""
+
+
+def in_two(rng, talk, text, before, behind):
+    """Sends it: no more than so many bytes come before it is whole, and so many are awaited then."""
+    at = rng.randrange(1, len(text))
+    talk.steps += [("send", text[:at]), ("quiet", before), ("send", text[at:]), ("await", behind)]
+
+
+def refused_talk(seed, number):
+    """An exact one in mode `socks5` that ends at the last byte of a greeting or a request, whatever stands behind it, and not before."""
+    rng = seeded("talk", seed, "refused", number)
+    front, answer, asks, last = refused(rng)
+    talk, text = Talk(exact=True, answered=answer + last), front + asks
+    if rng.random() < 0.5:
+        talk.send(rng, text[:-1])
+        so_far = len(answer) if asks else 0
+        talk.steps += [("await", so_far), ("quiet", so_far)]
+        text = text[-1:]
+    talk.send(rng, text + rng.choice((b"", b"", b"GET / HTTP/1.1\r\n\r\n", bytes(70_000))))
     talk.steps.append(("read", 0))
     return talk
 
@@ -64,7 +114,7 @@ def exact_requests(rng, talk, seed, number, mode, front, inside, most):
     for index in range(count):
         made = exchange(seed, "x", number, index, mode, index == count - 1, inside, most)
         talk.answered += made.answered
-        talk.printed.append(shown(made.method, made.path, made.code, made.size))
+        talk.shown(made.method, made.path, made.code, made.size)
         talk.asked[made.path] = made.asked
         front += made.request
         if one_by_one:
@@ -81,7 +131,7 @@ def exact_websocket(rng, talk, seed, number, mode, front, inside, most):
     talk.steps.append(("await", len(talk.answered + made.response)))
     talk.send(rng, made.request_frames)
     talk.answered += made.answered
-    talk.printed.append(shown(b"GET", made.path, 101, b"0"))
+    talk.shown(b"GET", made.path, 101, b"0")
     talk.asked[made.path] = made.asked
 
 
@@ -95,9 +145,9 @@ def exact_upgrade(rng, talk, seed, number, mode, front, inside, most):
     """A 101 that begins no WebSocket, so what follows is echoed as it is."""
     body, path = some_bytes(rng, 50_000), b"/f/x%d/0/raw" % number
     sent, got = target_of(mode, path)
-    talk.send(rng, lines(b"GET " + sent + b" HTTP/1.1", b"Host: x", b"Connection: Upgrade", b"Upgrade: raw") + b"RAW %08x\n" % len(body) + body)
+    talk.send(rng, front + lines(b"GET " + sent + b" HTTP/1.1", b"Host: x", b"Connection: Upgrade", b"Upgrade: raw") + b"RAW %08x\n" % len(body) + body)
     talk.answered += SWITCHES + body
-    talk.printed.append(shown(b"GET", path, 101, b"0"))
+    talk.shown(b"GET", path, 101, b"0")
     talk.asked[path] = lines(b"GET " + got + b" HTTP/1.1", b"Host: x", b"Connection: Upgrade", b"Upgrade: raw")
 
 
@@ -113,12 +163,31 @@ def mutated_talk(seed, number, mode):
     if rng.random() < 0.08:
         text = text[:rng.randrange(len(text) + 1)]
     talk.heads = b"HEAD" in text
+    if mode == "socks5":
+        text = mutated_entry(seeded("entry", seed, number), talk, text)
     if make is large_head and rng.random() < 0.3:
         talk.steps += [("send", bytes([byte])) for byte in text]
     else:
         talk.send(rng, text)
     talk.steps.append((rng.choice(("read", "read", "read", "close", "reset", "half", "brief")), 0))
     return talk
+
+
+def mutated_entry(rng, talk, text):
+    """What a client of SOCKS says in front of its text, as it should or not; some leave within it. What goes in one piece with the text is not sent yet."""
+    hello, asks = first_texts(rng)
+    if rng.random() < 0.12:
+        return (hello + asks)[:rng.randrange(len(hello + asks) + 1)]
+    way = rng.randrange(4)
+    if way > 0:
+        talk.send(rng, hello)
+        talk.steps.append(("await", len(WELCOME)))
+        hello = b""
+    if way > 1:
+        talk.send(rng, asks)
+        talk.steps.append(("await", len(WELCOME + STANDS)))
+        asks = b""
+    return hello + asks + text
 
 
 def requests(rng, seed, number, mode, inside=False):
@@ -132,9 +201,9 @@ def requests(rng, seed, number, mode, inside=False):
 
 def wrapped(rng, seed, number, mode, inner):
     """The text, behind a CONNECT where the mode has them."""
-    if mode == "reverse":
+    if mode in BY_PATH:
         return inner(rng, seed, number, mode)
-    port = rng.choice((SERVER, SERVER, SERVER, SPEAKER, 9299))
+    port = rng.choice((SERVER, SERVER, SERVER, SPEAKER, NOBODY))
     return connect(port) + inner(rng, seed, number, mode, True)
 
 
@@ -169,7 +238,7 @@ def websocket_inside(rng, seed, number, mode):
 
 def raw_text(rng, seed, number, mode, inside=True):
     body = some_bytes(rng, 60_000)
-    return (connect(SPEAKER) if mode != "reverse" else b"") + rng.choice((b"RAW %08x\n" % len(body), b"\x16\x03\x01\x02\x00", b"GE", b"GET", b"POST / HTTP/1.1\r\n\r\n", b"")) + body
+    return (b"" if mode in BY_PATH else connect(SPEAKER)) + rng.choice((b"RAW %08x\n" % len(body), b"\x16\x03\x01\x02\x00", b"GE", b"GET", b"POST / HTTP/1.1\r\n\r\n", b"")) + body
 
 
 def upgrade_text(rng, seed, number, mode, inside=False):

@@ -6,10 +6,15 @@ import random
 import re
 from dataclasses import dataclass, field
 
+PROXY, CONTROL = ("127.0.0.1", 8280), ("127.0.0.1", 8281)
 SERVER, SPEAKER = 9201, 9202
+# Where nobody listens.
+NOBODY = 9299
 METHODS = (b"GET", b"HEAD", b"POST", b"PUT", b"DELETE", b"OPTIONS", b"TRACE", b"PATCH")
 PATH = re.compile(rb"/f/([mx])(\d{1,6})/(\d{1,6})")
 MOST = 65_536
+# The modes whose clients ask for a path.
+BY_PATH = ("reverse", "socks5")
 
 
 @dataclass
@@ -87,7 +92,7 @@ def is_streamed(body, most):
 def target_of(mode, path, inside=False, port=SERVER):
     """What a client asks for, and what its server is asked for."""
     whole = b"http://127.0.0.1:%d" % port + path
-    if mode == "reverse" or inside:
+    if mode in BY_PATH or inside:
         return path, path
     return whole, whole if mode == "upstream" else path
 
