@@ -165,6 +165,11 @@ class ServedConnection(Peer):
             if not self.answer():
                 return
 
+    def goes_raw(self, start):
+        """From here on nothing is read as HTTP; where it spoke first, nothing was."""
+        if self.is_raw_from is None:
+            self.is_raw_from = start
+
     def answer(self):
         """Answers what stands at `at`; whether it goes on."""
         start = self.at
@@ -190,7 +195,7 @@ class ServedConnection(Peer):
 
     def echo(self, start):
         """Sends back what is said to come behind a line `RAW LENGTH`, and closes."""
-        self.is_raw_from = start
+        self.goes_raw(start)
         if not self.read(self.connection, PATIENCE, start + 13):
             return False
         try:
@@ -208,7 +213,7 @@ class ServedConnection(Peer):
         kind, number, index = ("m", zlib.crc32(target) % 1000, 0) if not found else (found[1].decode(), int(found[2]), int(found[3]))
         if target.endswith(b"/raw"):
             end = self.at + self.got[self.at:].find(b"\r\n\r\n") + 4
-            self.is_raw_from = end
+            self.goes_raw(end)
             self.connection.sendall(SWITCHES)
             return self.echo(end) if kind == "x" else self.read(self.connection, IDLE)
         if target.endswith(b"/ws"):
@@ -218,7 +223,7 @@ class ServedConnection(Peer):
             self.may_be_cut = True
             steps = server_steps(servers.seed, number, index, made)
             if b" 101" in b"".join(what for verb, what in steps if verb == "send"):
-                self.is_raw_from = self.at + 1
+                self.goes_raw(self.at + 1)
             self.play(self.connection, steps, IDLE)
             return False
         return self.serve_exact(kind, number, index)
@@ -235,7 +240,8 @@ class ServedConnection(Peer):
         return made.kind != "close"
 
     def serve_websocket(self, kind, number, index):
-        self.is_raw_from = end = self.at + self.got[self.at:].find(b"\r\n\r\n") + 4
+        end = self.at + self.got[self.at:].find(b"\r\n\r\n") + 4
+        self.goes_raw(end)
         made = websocket(self.servers.seed, kind, number, index, self.servers.mode)
         if kind == "m":
             self.play(self.connection, websocket_steps(self.servers.seed, number, made), IDLE)
@@ -258,7 +264,7 @@ class ServedConnection(Peer):
         start = self.at
         end = start + self.got[start:].find(b"\r\n\r\n") + 4
         if name.startswith(b"ws"):
-            self.is_raw_from = end
+            self.goes_raw(end)
             self.connection.sendall(AGREES)
             self.await_frames(end, lambda _: len(messages_in(self.got[end:])) > 1)
             frames = messages_in(self.got[end:])

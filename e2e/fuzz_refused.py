@@ -119,7 +119,7 @@ def play(library, seed, mode, number=None, until=None):
 
 
 def talk(process, mode):
-    """What the clients and the operator got."""
+    """What the clients got, each in its place."""
     end = time.time() + PATIENCE
     while process.poll() is None and not listens(CONTROL[1]) and time.time() < end:
         time.sleep(0.005)
@@ -131,7 +131,7 @@ def talk(process, mode):
             with connected(PROXY, PATIENCE) as client:
                 client.sendall(sent)
                 if wanted.endswith(b"held\n"):
-                    got.append(operate(process))
+                    operate(process)
                 got.append(read(client))
         except OSError:
             got.append(b"")
@@ -140,7 +140,7 @@ def talk(process, mode):
     try:
         with connected(CONTROL, PATIENCE) as operator:
             operator.sendall(b"quit\n")
-            got.append(read(operator))
+            read(operator)
     except OSError:
         pass
     return got
@@ -194,8 +194,7 @@ def judge(process, mode, folder, got, number, out, err):
     if status == 8 and not notes:
         wrong.append("status 8, and nothing on standard error")
     wanted = [text for _, text in talks(mode)]
-    clients = [one for one in got if not one.startswith(b"{") and not one.startswith(b"no such") and one != b"bye\n" and not one.endswith(b"end\n")]
-    for one, whole in zip(clients, wanted):
+    for one, whole in zip(got, wanted):
         if not (whole.startswith(one) if status == 8 else one == whole or number is not None and (b"502 Bad Gateway" in one or one == WELCOME + FAILED)):
             wrong.append(f"a client got {one[:300]!r}, and not {whole[:300]!r}, with status {status}")
     saved = os.path.join(folder, "saved")
